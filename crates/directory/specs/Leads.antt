@@ -1,0 +1,26 @@
+-- Where a code leads by the stored values: document 01, "Numbers given back", on looking up. Assumes nothing.
+use mathlib.Core.Bool.{Bool, true, false, cond}
+use Prim.Native.Nat.{ℕ, _/_}
+use lib.Dec.{eqb, ltb}
+use Rattle.graph.specs.Assignment.{assigned, landing, blockSize}
+use Rattle.directory.specs.Sizes.{Header}
+use Rattle.directory.specs.Values.{valueIn, lineIn}
+
+-- to no line, its landing vertex being unassigned; to a line below n; or to a line of n or more, by a rank entry
+pub data Lead : Type 0 where
+  Nowhere : Lead
+  ToLine : ℕ → Lead
+  PastLast : ℕ → Lead
+
+-- the code with the vertices vertex 0, vertex 1, .., by the bytes T from the mark of GV on
+unfoldable pub leadOf : Header → (ℕ → ℕ) → (ℕ → ℕ) → Lead
+leadOf h T vertex =
+    let y = landing (h .r) (valueIn T) vertex in
+    let l = lineIn h T y in
+    cond (assigned (h .r) (valueIn T y)) (cond (ltb l (h .n)) (ToLine l) (PastLast (y / blockSize))) Nowhere
+
+-- the test that a code leads to line l
+abbrev pub leadsTo : ℕ → Lead → Bool
+leadsTo l Nowhere = false
+leadsTo l (ToLine k) = eqb k l
+leadsTo l (PastLast b) = false

@@ -1,0 +1,15 @@
+pub mod Sizes
+pub mod Codes
+pub mod Kind
+pub mod Bytes
+pub mod Refusals
+pub mod Values
+pub mod Leads
+pub mod File
+pub mod Building
+pub mod Opening
+pub mod LookingUp
+pub mod Showing
+pub mod Listing
+pub mod Answers
+pub mod Calls

@@ -1,0 +1,37 @@
+-- Showing a line: the code's bytes as a part of the caller's file. Assumes nothing.
+use mathlib.Core.Bool.{Bool, not, _||_, cond}
+use mathlib.Core.List.{List}
+use Prim.Native.Nat.{ℕ, _+_}
+use lib.Dec.{ltb}
+use lib.ListN.{take, drop}
+use Rattle.directory.specs.Sizes.{Header}
+use Rattle.directory.specs.Codes.{wrongLength}
+use Rattle.directory.specs.Kind.{Kind}
+use Rattle.directory.specs.Refusals.{first}
+use Rattle.directory.specs.File.{headerIn, keyAt, keyLength}
+use Rattle.directory.specs.Opening.{headerRefusals}
+
+-- a part of a file: where it starts, and how many bytes it has
+pub record Part : Type 0 where
+  pub start : ℕ
+  pub size : ℕ
+
+-- the empty part is the file's empty beginning
+abbrev pub emptyPart : Part
+emptyPart = record { start = 0; size = 0 }
+
+abbrev pub bytesOf : List ℕ → Part → List ℕ
+bytesOf f part = take (part .size) (drop (part .start) f)
+
+-- the code of line l; nothing where the line is n or more, or the stored length is 0 or over 32
+unfoldable pub keyPart : Kind → Header → List ℕ → ℕ → Part
+keyPart K h f l =
+    let k = keyLength K h f l in
+    cond (not (ltb l (h .n)) || wrongLength (K .positions) k) emptyPart (record { start = keyAt K h l + 3; size = k })
+
+-- nothing where 9, 10 or 11 applies
+unfoldable pub shownPart : Kind → List ℕ → ℕ → Part
+shownPart K f l = let h = headerIn f in first (keyPart K h f l) (λ number place. emptyPart) (headerRefusals K h f)
+
+unfoldable pub shown : Kind → List ℕ → ℕ → List ℕ
+shown K f l = bytesOf f (shownPart K f l)

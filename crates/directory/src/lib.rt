@@ -1,0 +1,40 @@
+// What a directory is: the answers of the calls here, and their meaning in specs/. No code.
+
+// Building: success, or a refusal's number and place.
+pub enum Built {
+    Done,
+    Refused(u8, usize),
+}
+
+// Opening: n, r and v, or a refusal's number and place.
+pub enum Opening {
+    Opened(u16, u8, u16),
+    Refused(u8, usize),
+}
+
+// Looking up: the line, no line, or a refusal's number and place.
+pub enum Found {
+    At(usize),
+    Unknown,
+    Refused(u8, usize),
+}
+
+// The group that a refusal number belongs to.
+pub enum RefusalGroup {
+    Building,
+    Opening,
+    LookingUp,
+    NoRefusal,
+}
+
+// What the place of a refusal is.
+pub enum PlaceMeaning {
+    Nothing,
+    Code,
+    LengthNeeded,
+    CodesLeft,
+    Offset,
+    Vertex,
+    RankEntry,
+    Line,
+}
