@@ -13,3 +13,7 @@ pub mod Showing
 pub mod Listing
 pub mod Answers
 pub mod Calls
+pub mod Computing
+pub mod Sayings
+pub mod Cases
+pub mod Witnesses

@@ -1,0 +1,205 @@
+-- Points of document 01 that its cases 1 to 10 do not pin: the order of the queue at r = 3, more than one block, and each refusal on damaged and strangers' files. One list, one theorem, computed. Assumes nothing.
+use mathlib.Core.Path.{_≡_, refl}
+use mathlib.Core.Bool.{Bool, true}
+use mathlib.Core.List.{List, [], _∷_, _++_}
+use Prim.Native.Nat.{ℕ}
+use lib.ListN.{length, getD, take, set, replicate}
+use Rattle.counting.specs.Lists.{same, every}
+use Rattle.directory.specs.Kind.{HD}
+use Rattle.directory.specs.File.{file}
+use Rattle.directory.specs.Building.{Lent}
+use Rattle.directory.specs.Answers.{builtNumbers, openingNumbers, foundNumbers}
+use Rattle.directory.specs.Calls.{buildOf, openOf, lookupOf, showPartOf}
+use Rattle.directory.specs.Sayings.{builds, names, peels, ranks, lines}
+use Rattle.directory.specs.Cases.{Case, holds, plainWeights, BA, BB, BC, DA, DB}
+use Rattle.directory.specs.Computing.{computing}
+
+pub data Witness : Type 0 where
+  -- a case as in the list of cases
+  worked : Case → Witness
+  -- building gives this number and place
+  answers : Lent → ℕ → ℕ → Witness
+  -- opening these bytes gives n, r and v, or this number and place
+  opens : List ℕ → ℕ → ℕ → ℕ → Witness
+  fails : List ℕ → ℕ → ℕ → Witness
+  -- looking a code up in these bytes gives a line, Unknown, or this number and place
+  finds : List ℕ → List ℕ → ℕ → Witness
+  misses : List ℕ → List ℕ → Witness
+  rejects : List ℕ → List ℕ → ℕ → ℕ → Witness
+  -- showing a line of these bytes gives the part with this start and size
+  shows : List ℕ → ℕ → ℕ → ℕ → Witness
+
+opened : List ℕ → List ℕ
+opened f = let o = openingNumbers (openOf f) in o .0 ∷ o .1 ∷ o .2 ∷ o .3 ∷ o .4 ∷ []
+
+looked : List ℕ → List ℕ → List ℕ
+looked f t = let o = foundNumbers (lookupOf f t) in o .0 ∷ o .1 ∷ o .2 ∷ o .3 ∷ []
+
+pub isSo : Witness → Bool
+isSo (worked c) = holds c
+isSo (answers I number place) = let b = builtNumbers (buildOf I) in same (b .0 ∷ b .1 ∷ []) (number ∷ place ∷ [])
+isSo (opens f n r v) = same (opened f) (0 ∷ 0 ∷ n ∷ r ∷ v ∷ [])
+isSo (fails f number place) = same (opened f) (number ∷ place ∷ 0 ∷ 0 ∷ 0 ∷ [])
+isSo (finds f t l) = same (looked f t) (0 ∷ 0 ∷ 0 ∷ l ∷ [])
+isSo (misses f t) = same (looked f t) (1 ∷ 0 ∷ 0 ∷ 0 ∷ [])
+isSo (rejects f t number place) = same (looked f t) (2 ∷ number ∷ place ∷ 0 ∷ [])
+isSo (shows f l start size) = let p = showPartOf f l in same (p .start ∷ p .size ∷ []) (start ∷ size ∷ [])
+
+-- ---- codes that differ from one another in each part: p(j,j) = 1, other weights 0
+
+diagonal : List ℕ
+diagonal = 1 ∷ replicate 32 0 ++ 1 ∷ replicate 32 0 ++ 1 ∷ replicate 29 0
+
+AAA : List ℕ
+AAA = 0x41 ∷ 0x41 ∷ 0x41 ∷ []
+
+BAA : List ℕ
+BAA = 0x42 ∷ 0x41 ∷ 0x41 ∷ []
+
+BAE : List ℕ
+BAE = 0x42 ∷ 0x41 ∷ 0x45 ∷ []
+
+BBB : List ℕ
+BBB = 0x42 ∷ 0x42 ∷ 0x42 ∷ []
+
+BDF : List ℕ
+BDF = 0x42 ∷ 0x44 ∷ 0x46 ∷ []
+
+CCD : List ℕ
+CCD = 0x43 ∷ 0x43 ∷ 0x44 ∷ []
+
+CFF : List ℕ
+CFF = 0x43 ∷ 0x46 ∷ 0x46 ∷ []
+
+FDE : List ℕ
+FDE = 0x46 ∷ 0x44 ∷ 0x45 ∷ []
+
+-- vertices 10 and 105, and 90 and 106, where v = 100
+early : List ℕ
+early = 0x0A ∷ 0x05 ∷ []
+
+late : List ℕ
+late = 0x5A ∷ 0x06 ∷ []
+
+-- ---- what is lent, by its run and ends and otherwise as in case 1, and with a buffer of `room` bytes
+
+lentIn : ℕ → List ℕ → List ℕ → Lent
+lentIn room run ends = record { run = run; ends = ends; r = 2; v = 4; weights = plainWeights; buffer = replicate room 0 }
+
+lentOf : List ℕ → List ℕ → Lent
+lentOf = lentIn 400
+
+-- no codes, by the other numbers
+lentBy : ℕ → ℕ → ℕ → Lent
+lentBy r v weights = record { run = []; ends = []; r = r; v = v; weights = replicate weights 0; buffer = [] }
+
+-- ---- a file with r = 2 and case 1's weights, by v, its values and its codes in line order
+
+fileBy : ℕ → List ℕ → List (List ℕ) → List ℕ
+fileBy v values codes = file HD (record { n = length codes; r = 2; v = v }) (λ i. getD plainWeights i 0) (λ x. getD values x 2) (λ l. getD codes l [])
+
+-- case 1's: WT stands at 7, GV at 137, RK at 141, KY at 145, 180, 215 and 250
+one : List ℕ
+one = fileBy 4 (0 ∷ 2 ∷ 0 ∷ 2 ∷ 2 ∷ 2 ∷ 1 ∷ 1 ∷ []) (DA ∷ BA ∷ BB ∷ BC ∷ [])
+
+-- m = 5·2: the last byte of the values has four spare bits
+ten : List ℕ
+ten = fileBy 5 [] []
+
+-- m = 200: RK stands at 189, its four entries from 191 on
+wide : List ℕ
+wide = fileBy 100 (replicate 10 2 ++ 0 ∷ replicate 79 2 ++ 0 ∷ []) (early ∷ late ∷ [])
+
+pub witnesses : List Witness
+witnesses =
+    -- the order j = 0, 1, .. of the vertices; a code that two vertices of one step would let join; rank entries of several blocks
+    worked (record { number = 0; r = 3; v = 5; weights = diagonal; codes = CFF ∷ BAE ∷ CCD ∷ BDF ∷ FDE ∷ []; sayings = peels (CCD ∷ FDE ∷ CFF ∷ BDF ∷ BAE ∷ []) ∷ lines CFF 2 ∷ lines BAE 1 ∷ lines CCD 3 ∷ lines BDF 4 ∷ lines FDE 0 ∷ builds 386 ∷ [] })
+    ∷ worked (record { number = 0; r = 3; v = 2; weights = diagonal; codes = BAA ∷ AAA ∷ BBB ∷ []; sayings = names BAA (0 ∷ 3 ∷ 5 ∷ []) ∷ peels (AAA ∷ BBB ∷ BAA ∷ []) ∷ lines BAA 0 ∷ lines AAA 1 ∷ lines BBB 2 ∷ builds 314 ∷ [] })
+    ∷ worked (record { number = 0; r = 2; v = 100; weights = plainWeights; codes = early ∷ late ∷ []; sayings = ranks (0 ∷ 1 ∷ 2 ∷ 2 ∷ []) ∷ lines early 0 ∷ lines late 1 ∷ builds 269 ∷ [] })
+    -- 1, 2 and 3, the first that applies
+    ∷ answers (lentBy 1 0 0) 1 0
+    ∷ answers (lentBy 4 1 0) 1 0
+    ∷ answers (lentBy 2 0 0) 2 0
+    ∷ answers (lentBy 2 2049 0) 2 0
+    ∷ answers (lentBy 3 1366 0) 2 0
+    ∷ answers (lentBy 3 1 64) 3 0
+    ∷ answers (lentBy 2 1 96) 3 0
+    -- 5: an end falls, an end passes the run, a code is empty, a code has 33 bytes; the last end misses the run's length
+    ∷ answers (lentOf (replicate 4 65) (2 ∷ 1 ∷ 4 ∷ [])) 5 1
+    ∷ answers (lentOf (replicate 4 65) (2 ∷ 3 ∷ 5 ∷ [])) 5 2
+    ∷ answers (lentOf (replicate 4 65) (0 ∷ 4 ∷ [])) 5 0
+    ∷ answers (lentOf (replicate 33 65) (33 ∷ [])) 5 0
+    ∷ answers (lentOf (replicate 32 65) (32 ∷ [])) 0 0
+    ∷ answers (lentOf (replicate 5 65) (2 ∷ 4 ∷ [])) 5 2
+    ∷ answers (lentOf (65 ∷ []) []) 5 0
+    -- 6 before 7, and 7 before 8
+    ∷ answers (lentIn 284 (BA ++ BB ++ BA ++ BA) (2 ∷ 4 ∷ 6 ∷ 8 ∷ [])) 6 285
+    ∷ answers (lentIn 285 (BA ++ BB ++ BB ++ BA) (2 ∷ 4 ∷ 6 ∷ 8 ∷ [])) 7 2
+    -- opening: 9, 10, 11, 9
+    ∷ opens one 4 2 4
+    ∷ fails [] 9 0
+    ∷ fails (take 6 one) 9 0
+    ∷ fails (set one 1 0x45) 10 0
+    ∷ fails (set one 3 4) 11 0
+    ∷ fails (set one 4 4) 11 0
+    ∷ fails (set one 5 0) 11 0
+    ∷ fails (set one 6 16) 11 0
+    ∷ fails (one ++ 0 ∷ []) 9 0
+    ∷ fails (set one 2 3) 9 0
+    -- 10: the offset of the first wrong mark, whichever of its letters is wrong
+    ∷ fails (set one 8 0) 10 7
+    ∷ fails (set one 137 0) 10 137
+    ∷ fails (set one 142 0) 10 141
+    ∷ fails (set (set one 181 0) 250 0) 10 180
+    ∷ fails (set (set one 139 0xFF) 250 0) 10 250
+    -- 12: a value over r, or spare bits
+    ∷ fails (set one 140 0xDA) 12 7
+    ∷ opens ten 0 2 5
+    ∷ fails (set ten 141 0x1A) 12 10
+    ∷ fails (set ten 141 0x1B) 12 8
+    -- 13: a rank entry, or the total
+    ∷ opens wide 2 2 100
+    ∷ fails (set wide 191 1) 13 0
+    ∷ fails (set wide 198 1) 13 3
+    ∷ fails (set one 139 0x80) 13 1
+    -- 14 for any line before 15 for any: a length, or the filling
+    ∷ fails (set one 147 0) 14 0
+    ∷ fails (set one 182 33) 14 1
+    ∷ fails (set (set one 148 66) 284 1) 14 3
+    -- 15: a code that leads elsewhere, or to a vertex that is not assigned
+    ∷ fails (set one 148 66) 15 0
+    ∷ fails (fileBy 4 (2 ∷ 2 ∷ 2 ∷ 0 ∷ 2 ∷ 2 ∷ 2 ∷ 2 ∷ []) (BA ∷ [])) 15 0
+    -- a cyclic graph that admits a table: the file opens
+    ∷ opens (fileBy 4 (0 ∷ 2 ∷ 1 ∷ 2 ∷ 2 ∷ 0 ∷ 1 ∷ 2 ∷ []) (DA ∷ BB ∷ BA ∷ DB ∷ [])) 4 2 4
+    -- looking up: 9, 10, 11, 9 and then 16
+    ∷ rejects (take 6 one) [] 9 0
+    ∷ rejects (set one 0 0) [] 10 0
+    ∷ rejects (set one 4 4) [] 11 0
+    ∷ rejects (one ++ 0 ∷ []) [] 9 0
+    ∷ rejects one [] 16 0
+    ∷ rejects one (replicate 33 65) 16 0
+    ∷ misses one (replicate 32 65)
+    -- other marks and the filling are not looked at
+    ∷ finds (set (set one 180 0) 284 1) BA 1
+    -- a stored length that runs past the file is not the code's: the last record's 32 bytes are asked for
+    ∷ misses (set one 252 200) (BC ++ replicate 30 0)
+    -- 13: the rank entry leads past the last line, by much or in a later block; a stored 3 counts as assigned at r = 2; no codes but a value
+    ∷ rejects (set (set one 143 0xFF) 144 0xFF) BC 13 0
+    ∷ rejects (set wide 193 9) late 13 1
+    ∷ rejects (set one 139 0x8C) BC 13 0
+    ∷ rejects (fileBy 4 (2 ∷ 2 ∷ 0 ∷ []) []) BA 13 0
+    -- showing: the mark and the filling are not looked at
+    ∷ shows one 2 218 2
+    ∷ shows (set one 215 0) 2 218 2
+    ∷ shows one 4 0 0
+    ∷ shows (set one 217 0) 2 0 0
+    ∷ shows (set one 217 33) 2 0 0
+    ∷ shows (set one 217 32) 2 218 32
+    ∷ shows (take 284 one) 2 0 0
+    ∷ shows (set one 1 0x45) 2 0 0
+    ∷ shows (set one 4 1) 2 0 0
+    ∷ []
+
+pub witnesses-hold : every isSo witnesses ≡ true
+unfolding opened looked isSo diagonal AAA BAA BAE BBB BDF CCD CFF FDE early late lentIn lentOf lentBy fileBy one ten wide witnesses plainWeights BA BB BC DA DB holds computing
+witnesses-hold = refl
