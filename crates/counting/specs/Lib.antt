@@ -1,2 +1,4 @@
+pub mod TestLaws
 pub mod Below
+pub mod BelowLaws
 pub mod Lists

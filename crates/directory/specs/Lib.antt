@@ -13,6 +13,8 @@ pub mod Showing
 pub mod Listing
 pub mod Answers
 pub mod Calls
+pub mod SizeLaws
+pub mod KindLaws
 pub mod Computing
 pub mod Sayings
 pub mod Cases

@@ -10,7 +10,7 @@ use Rattle.directory.specs.File.{file}
 use Rattle.directory.specs.Building.{Lent}
 use Rattle.directory.specs.Answers.{builtNumbers, openingNumbers, foundNumbers}
 use Rattle.directory.specs.Calls.{buildOf, openOf, lookupOf, showPartOf}
-use Rattle.directory.specs.Sayings.{builds, names, peels, ranks, lines}
+use Rattle.directory.specs.Sayings.{builds, names, peels, ranks, lines, unknown, lands}
 use Rattle.directory.specs.Cases.{Case, holds, plainWeights, BA, BB, BC, DA, DB}
 use Rattle.directory.specs.Computing.{computing}
 
@@ -74,6 +74,9 @@ CFF = 0x43 ∷ 0x46 ∷ 0x46 ∷ []
 FDE : List ℕ
 FDE = 0x46 ∷ 0x44 ∷ 0x45 ∷ []
 
+FEF : List ℕ
+FEF = 0x46 ∷ 0x45 ∷ 0x46 ∷ []
+
 -- vertices 10 and 105, and 90 and 106, where v = 100
 early : List ℕ
 early = 0x0A ∷ 0x05 ∷ []
@@ -112,8 +115,8 @@ wide = fileBy 100 (replicate 10 2 ++ 0 ∷ replicate 79 2 ++ 0 ∷ []) (early �
 
 pub witnesses : List Witness
 witnesses =
-    -- the order j = 0, 1, .. of the vertices; a code that two vertices of one step would let join; rank entries of several blocks
-    worked (record { number = 0; r = 3; v = 5; weights = diagonal; codes = CFF ∷ BAE ∷ CCD ∷ BDF ∷ FDE ∷ []; sayings = peels (CCD ∷ FDE ∷ CFF ∷ BDF ∷ BAE ∷ []) ∷ lines CFF 2 ∷ lines BAE 1 ∷ lines CCD 3 ∷ lines BDF 4 ∷ lines FDE 0 ∷ builds 386 ∷ [] })
+    -- the order j = 0, 1, .. of the vertices, and a stranger that lands on an unassigned vertex past the last line; a code that two vertices of one step would let join; rank entries of several blocks
+    worked (record { number = 0; r = 3; v = 5; weights = diagonal; codes = CFF ∷ BAE ∷ CCD ∷ BDF ∷ FDE ∷ []; sayings = peels (CCD ∷ FDE ∷ CFF ∷ BDF ∷ BAE ∷ []) ∷ lines CFF 2 ∷ lines BAE 1 ∷ lines CCD 3 ∷ lines BDF 4 ∷ lines FDE 0 ∷ lands FEF 10 ∷ unknown FEF ∷ builds 386 ∷ [] })
     ∷ worked (record { number = 0; r = 3; v = 2; weights = diagonal; codes = BAA ∷ AAA ∷ BBB ∷ []; sayings = names BAA (0 ∷ 3 ∷ 5 ∷ []) ∷ peels (AAA ∷ BBB ∷ BAA ∷ []) ∷ lines BAA 0 ∷ lines AAA 1 ∷ lines BBB 2 ∷ builds 314 ∷ [] })
     ∷ worked (record { number = 0; r = 2; v = 100; weights = plainWeights; codes = early ∷ late ∷ []; sayings = ranks (0 ∷ 1 ∷ 2 ∷ 2 ∷ []) ∷ lines early 0 ∷ lines late 1 ∷ builds 269 ∷ [] })
     -- 1, 2 and 3, the first that applies
@@ -201,5 +204,5 @@ witnesses =
     ∷ []
 
 pub witnesses-hold : every isSo witnesses ≡ true
-unfolding opened looked isSo diagonal AAA BAA BAE BBB BDF CCD CFF FDE early late lentIn lentOf lentBy fileBy one ten wide witnesses plainWeights BA BB BC DA DB holds computing
+unfolding opened looked isSo diagonal AAA BAA BAE BBB BDF CCD CFF FDE FEF early late lentIn lentOf lentBy fileBy one ten wide witnesses plainWeights BA BB BC DA DB holds computing
 witnesses-hold = refl
