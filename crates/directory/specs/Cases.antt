@@ -10,7 +10,6 @@ use Rattle.directory.specs.Sayings.{Saying, refuses, builds, names, peel
 use Rattle.directory.specs.Computing.{computing}
 
 pub record Case : Type 0 where
-  pub number : ℕ
   pub r : ℕ
   pub v : ℕ
   pub weights : List ℕ
@@ -67,12 +66,12 @@ unfoldable pub plainWeights : List ℕ
 plainWeights = 1 ∷ replicate 32 0 ++ 1 ∷ replicate 30 0
 
 -- unless said otherwise r = 2, v = 4 and these weights
-usual : ℕ → List (List ℕ) → List Saying → Case
-usual number codes sayings = record { number = number; r = 2; v = 4; weights = plainWeights; codes = codes; sayings = sayings }
+usual : List (List ℕ) → List Saying → Case
+usual codes sayings = record { r = 2; v = 4; weights = plainWeights; codes = codes; sayings = sayings }
 
 -- r = 3, v = 1, all weights 0
-three : ℕ → List (List ℕ) → List Saying → Case
-three number codes sayings = record { number = number; r = 3; v = 1; weights = replicate 96 0; codes = codes; sayings = sayings }
+three : List (List ℕ) → List Saying → Case
+three codes sayings = record { r = 3; v = 1; weights = replicate 96 0; codes = codes; sayings = sayings }
 
 -- the list of case 1
 four : List (List ℕ)
@@ -80,7 +79,8 @@ four = BA ∷ BB ∷ DA ∷ BC ∷ []
 
 pub cases : List Case
 cases =
-    usual 1 four
+    -- 1
+    usual four
     (names BA (2 ∷ 5 ∷ [])
     ∷ names BB (2 ∷ 6 ∷ [])
     ∷ names DA (0 ∷ 5 ∷ [])
@@ -97,16 +97,25 @@ cases =
     -- 0 4441, 1 4241, 2 4242, 3 4243
     ∷ prints ((0x30 ∷ 0x20 ∷ 0x34 ∷ 0x34 ∷ 0x34 ∷ 0x31 ∷ 0x0A ∷ []) ∷ (0x31 ∷ 0x20 ∷ 0x34 ∷ 0x32 ∷ 0x34 ∷ 0x31 ∷ 0x0A ∷ []) ∷ (0x32 ∷ 0x20 ∷ 0x34 ∷ 0x32 ∷ 0x34 ∷ 0x32 ∷ 0x0A ∷ []) ∷ (0x33 ∷ 0x20 ∷ 0x34 ∷ 0x32 ∷ 0x34 ∷ 0x33 ∷ 0x0A ∷ []) ∷ [])
     ∷ [])
-    ∷ usual 2 four (meets AA (2 ∷ 2 ∷ []) ∷ lands AA 1 ∷ unknown AA ∷ [])
-    ∷ usual 3 four (lands DB 6 ∷ passes DB 2 ∷ shows 2 BB ∷ unknown DB ∷ [])
-    ∷ usual 4 (BA ∷ []) (lines BA 0 ∷ lands CA 3 ∷ meets CA (2 ∷ 2 ∷ []) ∷ passes CA 1 ∷ unknown CA ∷ builds 180 ∷ [])
-    ∷ usual 5 (BA ∷ BB ∷ DA ∷ DB ∷ []) (refuses 8 4 ∷ [])
-    ∷ usual 6 (BA ∷ BB ∷ DA ∷ DB ∷ BC ∷ []) (refuses 8 4 ∷ [])
-    ∷ usual 7 (BA ∷ FA ∷ []) (names BA (2 ∷ 5 ∷ []) ∷ names FA (2 ∷ 5 ∷ []) ∷ refuses 8 2 ∷ [])
-    ∷ usual 8 (BA ∷ BB ∷ BA ∷ []) (refuses 7 2 ∷ [])
-    ∷ usual 9 [] (builds 145 ∷ unknown AA ∷ prints [] ∷ [])
-    ∷ three 10 (BA ∷ []) (holdsValues (0 ∷ 3 ∷ 3 ∷ []) ∷ packs (0x3C ∷ []) ∷ lines BA 0 ∷ builds 243 ∷ [])
-    ∷ three 10 (BA ∷ BB ∷ []) (refuses 8 2 ∷ [])
+    -- 2
+    ∷ usual four (meets AA (2 ∷ 2 ∷ []) ∷ lands AA 1 ∷ unknown AA ∷ [])
+    -- 3
+    ∷ usual four (lands DB 6 ∷ passes DB 2 ∷ shows 2 BB ∷ unknown DB ∷ [])
+    -- 4
+    ∷ usual (BA ∷ []) (lines BA 0 ∷ lands CA 3 ∷ meets CA (2 ∷ 2 ∷ []) ∷ passes CA 1 ∷ unknown CA ∷ builds 180 ∷ [])
+    -- 5
+    ∷ usual (BA ∷ BB ∷ DA ∷ DB ∷ []) (refuses 8 4 ∷ [])
+    -- 6
+    ∷ usual (BA ∷ BB ∷ DA ∷ DB ∷ BC ∷ []) (refuses 8 4 ∷ [])
+    -- 7
+    ∷ usual (BA ∷ FA ∷ []) (names BA (2 ∷ 5 ∷ []) ∷ names FA (2 ∷ 5 ∷ []) ∷ refuses 8 2 ∷ [])
+    -- 8
+    ∷ usual (BA ∷ BB ∷ BA ∷ []) (refuses 7 2 ∷ [])
+    -- 9
+    ∷ usual [] (lands AA 1 ∷ unknown AA ∷ builds 145 ∷ prints [] ∷ [])
+    -- 10
+    ∷ three (BA ∷ []) (holdsValues (0 ∷ 3 ∷ 3 ∷ []) ∷ packs (0x3C ∷ []) ∷ lines BA 0 ∷ builds 243 ∷ [])
+    ∷ three (BA ∷ BB ∷ []) (refuses 8 2 ∷ [])
     ∷ []
 
 pub cases-hold : every holds cases ≡ true

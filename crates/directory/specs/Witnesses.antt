@@ -116,9 +116,9 @@ wide = fileBy 100 (replicate 10 2 ++ 0 ∷ replicate 79 2 ++ 0 ∷ []) (early �
 pub witnesses : List Witness
 witnesses =
     -- the order j = 0, 1, .. of the vertices, and a stranger that lands on an unassigned vertex past the last line; a code that two vertices of one step would let join; rank entries of several blocks
-    worked (record { number = 0; r = 3; v = 5; weights = diagonal; codes = CFF ∷ BAE ∷ CCD ∷ BDF ∷ FDE ∷ []; sayings = peels (CCD ∷ FDE ∷ CFF ∷ BDF ∷ BAE ∷ []) ∷ lines CFF 2 ∷ lines BAE 1 ∷ lines CCD 3 ∷ lines BDF 4 ∷ lines FDE 0 ∷ lands FEF 10 ∷ unknown FEF ∷ builds 386 ∷ [] })
-    ∷ worked (record { number = 0; r = 3; v = 2; weights = diagonal; codes = BAA ∷ AAA ∷ BBB ∷ []; sayings = names BAA (0 ∷ 3 ∷ 5 ∷ []) ∷ peels (AAA ∷ BBB ∷ BAA ∷ []) ∷ lines BAA 0 ∷ lines AAA 1 ∷ lines BBB 2 ∷ builds 314 ∷ [] })
-    ∷ worked (record { number = 0; r = 2; v = 100; weights = plainWeights; codes = early ∷ late ∷ []; sayings = ranks (0 ∷ 1 ∷ 2 ∷ 2 ∷ []) ∷ lines early 0 ∷ lines late 1 ∷ builds 269 ∷ [] })
+    worked (record { r = 3; v = 5; weights = diagonal; codes = CFF ∷ BAE ∷ CCD ∷ BDF ∷ FDE ∷ []; sayings = peels (CCD ∷ FDE ∷ CFF ∷ BDF ∷ BAE ∷ []) ∷ lines CFF 2 ∷ lines BAE 1 ∷ lines CCD 3 ∷ lines BDF 4 ∷ lines FDE 0 ∷ lands FEF 10 ∷ unknown FEF ∷ builds 386 ∷ [] })
+    ∷ worked (record { r = 3; v = 2; weights = diagonal; codes = BAA ∷ AAA ∷ BBB ∷ []; sayings = names BAA (0 ∷ 3 ∷ 5 ∷ []) ∷ peels (AAA ∷ BBB ∷ BAA ∷ []) ∷ lines BAA 0 ∷ lines AAA 1 ∷ lines BBB 2 ∷ builds 314 ∷ [] })
+    ∷ worked (record { r = 2; v = 100; weights = plainWeights; codes = early ∷ late ∷ []; sayings = ranks (0 ∷ 1 ∷ 2 ∷ 2 ∷ []) ∷ lines early 0 ∷ lines late 1 ∷ builds 269 ∷ [] })
     -- 1, 2 and 3, the first that applies
     ∷ answers (lentBy 1 0 0) 1 0
     ∷ answers (lentBy 4 1 0) 1 0
