@@ -26,8 +26,6 @@ pub const NUMBER_BYTES: usize = 2;
 pub const HEADER_BYTES: usize = 7;
 /// Bytes of a KY record: the mark, the length (1) and room for the longest code.
 pub const KEY_BYTES: usize = MARK_BYTES + 1 + LONGEST_CODE;
-/// Bytes of the longest file, as document 01 gives it.
-pub const LONGEST_FILE: usize = 37_197;
 
 /// Whether r is an allowed arity.
 pub fn arity_allowed(r: u64) -> bool {
