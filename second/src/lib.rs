@@ -1,0 +1,25 @@
+//! The second program: the code directory of document 01, written from the documents alone and as
+//! literally as possible, so that the proved implementation can be held to account with it.
+
+pub mod answers;
+pub mod building;
+pub mod codes;
+mod file;
+pub mod graph;
+pub mod header;
+pub mod listing;
+pub mod looking;
+pub mod opening;
+pub mod sizes;
+pub mod table;
+pub mod text;
+pub mod vertices;
+
+pub use answers::{Found, Part, Refusal};
+pub use building::build;
+pub use codes::CodeList;
+pub use header::Header;
+pub use listing::list;
+pub use looking::{lookup, show};
+pub use opening::open;
+pub use sizes::length;
