@@ -1,10 +1,11 @@
 -- What the public calls give back: the definitions that their contracts cite. The kind of a file is the one that its first mark names. Assumes nothing.
+use mathlib.Core.Bool.{cond}
 use mathlib.Core.List.{List}
 use Prim.Native.Nat.{ℕ}
 use Rattle.directory.specs.declared.Built.{Built}
 use Rattle.directory.specs.declared.Opening.{Opening}
 use Rattle.directory.specs.declared.Found.{Found}
-use Rattle.directory.specs.Sizes.{Header}
+use Rattle.directory.specs.Sizes.{Header, headerAllowed}
 use Rattle.directory.specs.Kind.{Kind, HD}
 use Rattle.directory.specs.File.{fileLength}
 use Rattle.directory.specs.Building as building
@@ -17,9 +18,9 @@ use Rattle.directory.specs.Listing as listing
 abbrev pub kindOf : List ℕ → Kind
 kindOf f = HD
 
--- the length of a file for n, r and v
+-- the length of the file for n, r and v, and 0, which no file has, where the sizes do not allow them
 unfoldable pub lengthOf : ℕ → ℕ → ℕ → ℕ
-lengthOf n r v = fileLength HD (record { n = n; r = r; v = v })
+lengthOf n r v = let h : Header = record { n = n; r = r; v = v } in cond (headerAllowed h) (fileLength HD h) 0
 
 -- building: the answer, and the buffer afterwards
 unfoldable pub buildOf : building.Lent → Built

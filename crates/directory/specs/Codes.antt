@@ -4,7 +4,7 @@ use mathlib.Core.List.{List}
 use Prim.Native.Nat.{ℕ, zero, suc, _-_}
 use lib.Dec.{eqb, ltb}
 use lib.ListN.{length, getD, take, drop}
-use Rattle.counting.specs.Below.{any, lowest}
+use Rattle.counting.specs.Below.{any}
 use Rattle.counting.specs.Lists.{same}
 
 -- code k runs from the end of code k-1, 0 for the first, ..

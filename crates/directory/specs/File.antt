@@ -1,6 +1,5 @@
 -- The directory file: its records one after the other, where they stand, and what is read of any bytes: document 01, "The directory file". Assumes nothing.
-use mathlib.Core.Bool.{Bool}
-use mathlib.Core.List.{List, [], _∷_, _++_}
+use mathlib.Core.List.{List, _∷_, _++_}
 use Prim.Native.Nat.{ℕ, _+_, _-_, _*_}
 use lib.ListN.{length, take, drop, replicate}
 use Rattle.counting.specs.Lists.{each}

@@ -1,5 +1,5 @@
 -- Where a code leads by the stored values: document 01, "Numbers given back", on looking up. Assumes nothing.
-use mathlib.Core.Bool.{Bool, true, false, cond}
+use mathlib.Core.Bool.{Bool, false, cond}
 use Prim.Native.Nat.{ℕ, _/_}
 use lib.Dec.{eqb, ltb}
 use Rattle.graph.specs.Assignment.{assigned, landing, blockSize}

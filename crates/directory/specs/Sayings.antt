@@ -5,7 +5,7 @@ use Prim.Native.Nat.{ℕ, _+_}
 use lib.Dec.{eqb}
 use lib.ListN.{length, take, drop}
 use Rattle.counting.specs.Below.{lowest, those}
-use Rattle.counting.specs.Lists.{same, each}
+use Rattle.counting.specs.Lists.{same}
 use Rattle.graph.specs.Peeling.{removalList}
 use Rattle.graph.specs.Assignment.{values, landing, assignedBelow}
 use Rattle.directory.specs.declared.Built.{Built}

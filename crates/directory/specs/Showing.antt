@@ -1,5 +1,5 @@
 -- Showing a line: the code's bytes as a part of the caller's file. Assumes nothing.
-use mathlib.Core.Bool.{Bool, not, _||_, cond}
+use mathlib.Core.Bool.{not, _||_, cond}
 use mathlib.Core.List.{List}
 use Prim.Native.Nat.{ℕ, _+_}
 use lib.Dec.{ltb}

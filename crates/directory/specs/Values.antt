@@ -5,7 +5,7 @@ use Prim.Native.Nat.{ℕ, _+_, _-_, _*_, _/_, _%_, _^_}
 use lib.Dec.{eqb, ltb}
 use Rattle.counting.specs.Below.{count, any, lowest}
 use Rattle.counting.specs.Lists.{each}
-use Rattle.graph.specs.Assignment.{assigned, landing, assignedBelow, blockSize, rankEntry}
+use Rattle.graph.specs.Assignment.{assigned, assignedBelow, blockSize, rankEntry}
 use Rattle.directory.specs.Sizes.{Header, vertexCount, valueBytes, rankEntries}
 use Rattle.directory.specs.Bytes.{two, twoIn, GV, RK, under}
 use Rattle.directory.specs.Refusals.{Refusal}
