@@ -22,6 +22,9 @@ twoAt f = twoIn (byteAt f)
 -- ---- marks
 
 -- two letters in ASCII
+abbrev pub markLength : ℕ
+markLength = 2
+
 abbrev pub WT : ℕ × ℕ
 WT = (0x57, 0x54)
 

@@ -4,7 +4,7 @@ use Prim.Native.Nat.{ℕ, _+_, _-_, _*_}
 use lib.ListN.{length, take, drop, replicate}
 use Rattle.counting.specs.Lists.{each}
 use Rattle.directory.specs.Sizes.{Header}
-use Rattle.directory.specs.Bytes.{two, byteAt, twoAt, WT, KY, under}
+use Rattle.directory.specs.Bytes.{two, byteAt, twoAt, markLength, WT, KY, under}
 use Rattle.directory.specs.Kind.{Kind, vertex}
 use Rattle.directory.specs.Values.{tableRecords, tableSize}
 use Rattle.directory.specs.Leads.{Lead, leadOf}
@@ -12,6 +12,10 @@ use Rattle.directory.specs.Leads.{Lead, leadOf}
 -- the mark and n (2 bytes), r (1), v (2)
 abbrev pub headerLength : ℕ
 headerLength = 7
+
+-- the mark and the length (1) before the code in a KY record
+abbrev pub keyHead : ℕ
+keyHead = markLength + 1
 
 module _ (K : Kind) (h : Header) where
   open Kind K using (mark, positions)
@@ -39,14 +43,17 @@ module _ (K : Kind) (h : Header) where
   weightsAt = headerLength
 
   unfoldable pub valuesAt : ℕ
-  valuesAt = weightsAt + (2 + 2 * (positions * r))
+  valuesAt = weightsAt + (markLength + 2 * (positions * r))
 
   unfoldable pub keysAt : ℕ
   keysAt = valuesAt + tableSize h
 
-  -- the KY record of line l
+  -- the KY record of line l, and the code in it
   unfoldable pub keyAt : ℕ → ℕ
-  keyAt l = keysAt + (3 + positions) * l
+  keyAt l = keysAt + (keyHead + positions) * l
+
+  unfoldable pub codeAt : ℕ → ℕ
+  codeAt l = keyAt l + keyHead
 
   unfoldable pub fileLength : ℕ
   fileLength = keyAt n
@@ -55,7 +62,7 @@ module _ (K : Kind) (h : Header) where
 
   module _ (f : List ℕ) where
     unfoldable pub weightIn : ℕ → ℕ
-    weightIn i = twoAt f (weightsAt + (2 + 2 * i))
+    weightIn i = twoAt f (weightsAt + (markLength + 2 * i))
 
     -- the bytes from the mark of GV on
     unfoldable pub tableIn : ℕ → ℕ
@@ -63,10 +70,10 @@ module _ (K : Kind) (h : Header) where
 
     -- the length and the code stored at line l
     unfoldable pub keyLength : ℕ → ℕ
-    keyLength l = byteAt f (keyAt l + 2)
+    keyLength l = byteAt f (keyAt l + markLength)
 
     unfoldable pub storedCode : ℕ → List ℕ
-    storedCode l = take (keyLength l) (drop (keyAt l + 3) f)
+    storedCode l = take (keyLength l) (drop (codeAt l) f)
 
     -- where code t leads in this file
     unfoldable pub leadIn : List ℕ → Lead

@@ -14,7 +14,7 @@ use Rattle.directory.specs.Bytes.{byteAt, WT, GV, RK, KY, marked}
 use Rattle.directory.specs.Refusals.{Refusal, first}
 use Rattle.directory.specs.Values.{ranksAt, tableRefusals}
 use Rattle.directory.specs.Leads.{leadsTo}
-use Rattle.directory.specs.File.{headerLength, weightsAt, valuesAt, keyAt, fileLength, headerIn, tableIn, keyLength, storedCode, leadIn}
+use Rattle.directory.specs.File.{headerLength, weightsAt, valuesAt, keyAt, codeAt, fileLength, headerIn, tableIn, keyLength, storedCode, leadIn}
 
 module _ (K : Kind) (h : Header) (f : List ℕ) where
   open Kind K using (mark, positions)
@@ -49,7 +49,7 @@ module _ (K : Kind) (h : Header) (f : List ℕ) where
 
   -- 14: a length of 0 or over 32, or filling not zero
   unfoldable pub fillingSet : ℕ → Bool
-  fillingSet l = any (positions - keyLength K h f l) (λ i. not (eqb (byteAt f (keyAt K h l + 3 + keyLength K h f l + i)) 0))
+  fillingSet l = any (positions - keyLength K h f l) (λ i. not (eqb (byteAt f (codeAt K h l + keyLength K h f l + i)) 0))
 
   unfoldable pub keyWrong : ℕ → Bool
   keyWrong l = wrongLength positions (keyLength K h f l) || fillingSet l

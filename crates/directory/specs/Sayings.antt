@@ -15,6 +15,7 @@ use Rattle.directory.specs.declared.Opening.the-variants as opening
 use Rattle.directory.specs.declared.Found.{Found}
 use Rattle.directory.specs.declared.Found.the-variants as found
 use Rattle.directory.specs.Sizes.{Header, vertexCount, valueBytes, rankEntries}
+use Rattle.directory.specs.Bytes.{markLength}
 use Rattle.directory.specs.Kind.{HD, vertex}
 use Rattle.directory.specs.Values.{valueIn, rankIn}
 use Rattle.directory.specs.File.{valuesAt, weightIn, tableIn, headerIn}
@@ -110,7 +111,7 @@ isTrue I f (peels codes) = same (joined (map (codeOf HD I) (removalList (graph H
 isTrue I f (holdsValues list) =
     let all = upTo (vertexCount (header HD I)) in
     same (map (values (graph HD I)) all) list && same (map (valueAt f) all) list
-isTrue I f (packs bytes) = let h = header HD I in same (take (valueBytes h) (drop (valuesAt HD h + 2) f)) bytes
+isTrue I f (packs bytes) = let h = header HD I in same (take (valueBytes h) (drop (valuesAt HD h + markLength) f)) bytes
 isTrue I f (ranks entries) = let h = header HD I in same (map (rankIn h (tableIn HD h f)) (upTo (rankEntries h))) entries
 isTrue I f (lines t l) =
     let k = lowest (length (I .ends)) (λ k. same (codeOf HD I k) t) in

@@ -1,14 +1,14 @@
 -- Showing a line: the code's bytes as a part of the caller's file. Assumes nothing.
 use mathlib.Core.Bool.{not, _||_, cond}
 use mathlib.Core.List.{List}
-use Prim.Native.Nat.{ℕ, _+_}
+use Prim.Native.Nat.{ℕ}
 use lib.Dec.{ltb}
 use lib.ListN.{take, drop}
 use Rattle.directory.specs.Sizes.{Header}
 use Rattle.directory.specs.Codes.{wrongLength}
 use Rattle.directory.specs.Kind.{Kind}
 use Rattle.directory.specs.Refusals.{first}
-use Rattle.directory.specs.File.{headerIn, keyAt, keyLength}
+use Rattle.directory.specs.File.{headerIn, codeAt, keyLength}
 use Rattle.directory.specs.Opening.{headerRefusals}
 
 -- a part of a file: where it starts, and how many bytes it has
@@ -27,7 +27,7 @@ bytesOf f part = take (part .size) (drop (part .start) f)
 unfoldable pub keyPart : Kind → Header → List ℕ → ℕ → Part
 keyPart K h f l =
     let k = keyLength K h f l in
-    cond (not (ltb l (h .n)) || wrongLength (K .positions) k) emptyPart (record { start = keyAt K h l + 3; size = k })
+    cond (not (ltb l (h .n)) || wrongLength (K .positions) k) emptyPart (record { start = codeAt K h l; size = k })
 
 -- nothing where 9, 10 or 11 applies
 unfoldable pub shownPart : Kind → List ℕ → ℕ → Part

@@ -7,7 +7,7 @@ use Rattle.counting.specs.Below.{count, any, lowest}
 use Rattle.counting.specs.Lists.{each}
 use Rattle.graph.specs.Assignment.{assigned, assignedBelow, blockSize, rankEntry}
 use Rattle.directory.specs.Sizes.{Header, vertexCount, valueBytes, rankEntries}
-use Rattle.directory.specs.Bytes.{two, twoIn, GV, RK, under}
+use Rattle.directory.specs.Bytes.{two, twoIn, markLength, GV, RK, under}
 use Rattle.directory.specs.Refusals.{Refusal}
 
 -- ---- what is written
@@ -22,10 +22,10 @@ spareZero m value x = cond (ltb x m) (value x) 0
 
 -- the two bits of place x, the spare ones too, of any bytes T 0, T 1, .. from the mark of GV on
 unfoldable pub valueIn : (ℕ → ℕ) → ℕ → ℕ
-valueIn T x = T (2 + x / 4) / 2 ^ (2 * (x % 4)) % 4
+valueIn T x = T (markLength + x / 4) / 2 ^ (2 * (x % 4)) % 4
 
 module _ (h : Header) where
-  open Header h using (n, r, v)
+  open Header h using (n, r)
 
   abbrev m : ℕ
   m = vertexCount h
@@ -41,16 +41,16 @@ module _ (h : Header) where
 
   -- RK stands after GV; the offset from the mark of GV on, and the length of both
   unfoldable pub ranksAt : ℕ
-  ranksAt = 2 + valueBytes h
+  ranksAt = markLength + valueBytes h
 
   unfoldable pub tableSize : ℕ
-  tableSize = ranksAt + (2 + 2 * rankEntries h)
+  tableSize = ranksAt + (markLength + 2 * rankEntries h)
 
   -- ---- what is read
 
   module _ (T : ℕ → ℕ) where
     unfoldable pub rankIn : ℕ → ℕ
-    rankIn b = twoIn T (ranksAt + (2 + 2 * b))
+    rankIn b = twoIn T (ranksAt + (markLength + 2 * b))
 
     -- 12: a value over r, or spare bits set
     unfoldable pub valueOver : ℕ → Bool

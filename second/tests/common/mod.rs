@@ -1,7 +1,9 @@
-//! What the tests share: the input of a build as one thing, and document 01's usual weights.
+//! What the tests share: the input of a build as one thing, document 01's usual weights, case 1's
+//! list and file, and lists of the most codes. Each test file uses a part of it.
+#![allow(dead_code)]
 
 use second::text::run_and_ends;
-use second::{build, length, CodeList, Refusal};
+use second::{build, length, open, CodeList, Header, Refusal};
 
 /// Everything a build is given.
 #[derive(Clone)]
@@ -64,4 +66,56 @@ pub fn directory(codes: &[&[u8]], r: u64, v: u64, weights: &[u16]) -> Vec<u8> {
 /// A refusal, to compare with.
 pub fn refusal(number: u8, place: usize) -> Refusal {
     Refusal { number, place }
+}
+
+/// Where the records of case 1's file stand, by hand: HD has 7 bytes, WT 2 + 128, GV 2 + 2,
+/// RK 2 + 2, and each KY 35, so that the four of them end at 285.
+pub const WT: usize = 7;
+pub const GV: usize = 137;
+pub const RK: usize = 141;
+pub const KY: usize = 145;
+pub const KY_BYTES: usize = 35;
+
+pub const CASE_1: [&[u8]; 4] = [b"BA", b"BB", b"DA", b"BC"];
+
+pub fn case_1() -> Input {
+    Input::new(&CASE_1, 2, 4, &diagonal(2))
+}
+
+pub fn case_1_file() -> Vec<u8> {
+    directory(&CASE_1, 2, 4, &diagonal(2))
+}
+
+/// The 1,024 codes of two bytes (0,0), (0,1), .. (3,255), and after them as many more as wanted.
+pub fn many_codes(count: usize) -> Vec<Vec<u8>> {
+    (0..count)
+        .map(|k| vec![(k / 256) as u8, (k % 256) as u8])
+        .collect()
+}
+
+pub fn lent(codes: &[Vec<u8>]) -> Vec<&[u8]> {
+    codes.iter().map(|code| &code[..]).collect()
+}
+
+/// Weights with p(0,0) = 256 and p(0,1) = 1: code k of `many_codes` has vertex k in part 0, and
+/// all codes share the first vertex of each other part.
+pub fn star_weights(r: usize) -> Vec<u16> {
+    let mut weights = vec![0; 32 * r];
+    weights[0] = 256;
+    weights[1] = 1;
+    weights
+}
+
+/// Checks that a build is refused and that no byte of its buffer changes.
+pub fn assert_refused(mut input: Input, expected: Refusal) {
+    let before = input.buffer.clone();
+    assert_eq!(input.build(), Err(expected));
+    assert_eq!(input.buffer, before, "a refused build changes no byte");
+}
+
+/// Checks what opening gives after a change to case 1's file.
+pub fn assert_opens_to(change: impl Fn(&mut Vec<u8>), expected: Result<Header, Refusal>) {
+    let mut file = case_1_file();
+    change(&mut file);
+    assert_eq!(open(&file), expected);
 }
