@@ -18,4 +18,5 @@ pub mod KindLaws
 pub mod Computing
 pub mod Sayings
 pub mod Cases
+pub mod Trials
 pub mod Witnesses

@@ -1,49 +1,20 @@
--- Points of document 01 that its cases 1 to 10 do not pin: the order of the queue at r = 3, more than one block, and each refusal on damaged and strangers' files. One list, one theorem, computed. Assumes nothing.
+-- Points of document 01 that its cases 1 to 10 do not pin: the order of the queue at r = 3, more than one block, and each refusal on damaged and strangers' files. Computed, as one theorem. Assumes nothing.
 use mathlib.Core.Path.{_≡_, refl}
-use mathlib.Core.Bool.{Bool, true}
-use mathlib.Core.List.{List, [], _∷_, _++_}
+use mathlib.Core.Bool.{true, _&&_}
+use mathlib.Core.List.{List, [], _∷_, _++_, map}
 use Prim.Native.Nat.{ℕ}
 use lib.ListN.{length, getD, take, set, replicate}
-use Rattle.counting.specs.Lists.{same, every}
+use Rattle.counting.specs.Below.{those}
+use Rattle.counting.specs.Lists.{every}
+use Rattle.directory.specs.declared.RefusalGroup.the-variants as G
+use Rattle.directory.specs.declared.PlaceMeaning.the-variants as P
 use Rattle.directory.specs.Kind.{HD}
 use Rattle.directory.specs.File.{file}
 use Rattle.directory.specs.Building.{Lent}
-use Rattle.directory.specs.Answers.{builtNumbers, openingNumbers, foundNumbers}
-use Rattle.directory.specs.Calls.{buildOf, openOf, lookupOf, showPartOf}
+use Rattle.directory.specs.Answers.{groupOf, meaningOf}
 use Rattle.directory.specs.Sayings.{builds, names, peels, ranks, lines, unknown, lands}
 use Rattle.directory.specs.Cases.{Case, holds, plainWeights, BA, BB, BC, DA, DB}
-use Rattle.directory.specs.Computing.{computing}
-
-pub data Witness : Type 0 where
-  -- a case as in the list of cases
-  worked : Case → Witness
-  -- building gives this number and place
-  answers : Lent → ℕ → ℕ → Witness
-  -- opening these bytes gives n, r and v, or this number and place
-  opens : List ℕ → ℕ → ℕ → ℕ → Witness
-  fails : List ℕ → ℕ → ℕ → Witness
-  -- looking a code up in these bytes gives a line, Unknown, or this number and place
-  finds : List ℕ → List ℕ → ℕ → Witness
-  misses : List ℕ → List ℕ → Witness
-  rejects : List ℕ → List ℕ → ℕ → ℕ → Witness
-  -- showing a line of these bytes gives the part with this start and size
-  shows : List ℕ → ℕ → ℕ → ℕ → Witness
-
-opened : List ℕ → List ℕ
-opened f = let o = openingNumbers (openOf f) in o .0 ∷ o .1 ∷ o .2 ∷ o .3 ∷ o .4 ∷ []
-
-looked : List ℕ → List ℕ → List ℕ
-looked f t = let o = foundNumbers (lookupOf f t) in o .0 ∷ o .1 ∷ o .2 ∷ o .3 ∷ []
-
-pub isSo : Witness → Bool
-isSo (worked c) = holds c
-isSo (answers I number place) = let b = builtNumbers (buildOf I) in same (b .0 ∷ b .1 ∷ []) (number ∷ place ∷ [])
-isSo (opens f n r v) = same (opened f) (0 ∷ 0 ∷ n ∷ r ∷ v ∷ [])
-isSo (fails f number place) = same (opened f) (number ∷ place ∷ 0 ∷ 0 ∷ 0 ∷ [])
-isSo (finds f t l) = same (looked f t) (0 ∷ 0 ∷ 0 ∷ l ∷ [])
-isSo (misses f t) = same (looked f t) (1 ∷ 0 ∷ 0 ∷ 0 ∷ [])
-isSo (rejects f t number place) = same (looked f t) (2 ∷ number ∷ place ∷ 0 ∷ [])
-isSo (shows f l start size) = let p = showPartOf f l in same (p .start ∷ p .size ∷ []) (start ∷ size ∷ [])
+use Rattle.directory.specs.Trials.{Trial, answers, opens, fails, finds, misses, rejects, shows, prints, isSo}
 
 -- ---- codes that differ from one another in each part: p(j,j) = 1, other weights 0
 
@@ -113,14 +84,18 @@ ten = fileBy 5 [] []
 wide : List ℕ
 wide = fileBy 100 (replicate 10 2 ++ 0 ∷ replicate 79 2 ++ 0 ∷ []) (early ∷ late ∷ [])
 
-pub witnesses : List Witness
-witnesses =
-    -- the order j = 0, 1, .. of the vertices, and a stranger that lands on an unassigned vertex past the last line; a code that two vertices of one step would let join; rank entries of several blocks
-    worked (record { r = 3; v = 5; weights = diagonal; codes = CFF ∷ BAE ∷ CCD ∷ BDF ∷ FDE ∷ []; sayings = peels (CCD ∷ FDE ∷ CFF ∷ BDF ∷ BAE ∷ []) ∷ lines CFF 2 ∷ lines BAE 1 ∷ lines CCD 3 ∷ lines BDF 4 ∷ lines FDE 0 ∷ lands FEF 10 ∷ unknown FEF ∷ builds 386 ∷ [] })
-    ∷ worked (record { r = 3; v = 2; weights = diagonal; codes = BAA ∷ AAA ∷ BBB ∷ []; sayings = names BAA (0 ∷ 3 ∷ 5 ∷ []) ∷ peels (AAA ∷ BBB ∷ BAA ∷ []) ∷ lines BAA 0 ∷ lines AAA 1 ∷ lines BBB 2 ∷ builds 314 ∷ [] })
-    ∷ worked (record { r = 2; v = 100; weights = plainWeights; codes = early ∷ late ∷ []; sayings = ranks (0 ∷ 1 ∷ 2 ∷ 2 ∷ []) ∷ lines early 0 ∷ lines late 1 ∷ builds 269 ∷ [] })
+-- the order j = 0, 1, .. of the vertices, and a stranger that lands on an unassigned vertex past the last line; a code that two vertices of one step would let join; rank entries of several blocks
+pub worked : List Case
+worked =
+    record { r = 3; v = 5; weights = diagonal; codes = CFF ∷ BAE ∷ CCD ∷ BDF ∷ FDE ∷ []; sayings = peels (CCD ∷ FDE ∷ CFF ∷ BDF ∷ BAE ∷ []) ∷ lines CFF 2 ∷ lines BAE 1 ∷ lines CCD 3 ∷ lines BDF 4 ∷ lines FDE 0 ∷ lands FEF 10 ∷ unknown FEF ∷ builds 386 ∷ [] }
+    ∷ record { r = 3; v = 2; weights = diagonal; codes = BAA ∷ AAA ∷ BBB ∷ []; sayings = names BAA (0 ∷ 3 ∷ 5 ∷ []) ∷ peels (AAA ∷ BBB ∷ BAA ∷ []) ∷ lines BAA 0 ∷ lines AAA 1 ∷ lines BBB 2 ∷ builds 314 ∷ [] }
+    ∷ record { r = 2; v = 100; weights = plainWeights; codes = early ∷ late ∷ []; sayings = ranks (0 ∷ 1 ∷ 2 ∷ 2 ∷ []) ∷ lines early 0 ∷ lines late 1 ∷ builds 269 ∷ [] }
+    ∷ []
+
+pub trials : List Trial
+trials =
     -- 1, 2 and 3, the first that applies
-    ∷ answers (lentBy 1 0 0) 1 0
+    answers (lentBy 1 0 0) 1 0
     ∷ answers (lentBy 4 1 0) 1 0
     ∷ answers (lentBy 2 0 0) 2 0
     ∷ answers (lentBy 2 2049 0) 2 0
@@ -191,6 +166,8 @@ witnesses =
     ∷ rejects (set wide 193 9) late 13 1
     ∷ rejects (set one 139 0x8C) BC 13 0
     ∷ rejects (fileBy 4 (2 ∷ 2 ∷ 0 ∷ []) []) BA 13 0
+    -- the lister, for a file that does not open: refused 9 0
+    ∷ prints [] (0x72 ∷ 0x65 ∷ 0x66 ∷ 0x75 ∷ 0x73 ∷ 0x65 ∷ 0x64 ∷ 0x20 ∷ 0x39 ∷ 0x20 ∷ 0x30 ∷ 0x0A ∷ [])
     -- showing: the mark and the filling are not looked at
     ∷ shows one 2 218 2
     ∷ shows (set one 215 0) 2 218 2
@@ -203,6 +180,19 @@ witnesses =
     ∷ shows (set one 4 1) 2 0 0
     ∷ []
 
-pub witnesses-hold : every isSo witnesses ≡ true
-unfolding opened looked isSo diagonal AAA BAA BAE BBB BDF CCD CFF FDE FEF early late lentIn lentOf lentBy fileBy one ten wide witnesses plainWeights BA BB BC DA DB holds computing
+pub witnesses-hold : every holds worked && every isSo trials ≡ true
+unfolding diagonal AAA BAA BAE BBB BDF CCD CFF FDE FEF early late lentIn lentOf lentBy fileBy one ten wide worked trials plainWeights BA BB BC DA DB holds isSo
 witnesses-hold = refl
+
+-- ---- the numbers 0 to 17: their groups, and what their places mean
+
+abbrev numbers : List ℕ
+numbers = those 18 (λ k. true)
+
+pub groups-are : map groupOf numbers ≡ G.NoRefusal ∷ replicate 8 G.Building ++ replicate 7 G.Opening ++ G.LookingUp ∷ G.NoRefusal ∷ []
+unfolding those groupOf
+groups-are = refl
+
+pub meanings-are : map meaningOf numbers ≡ replicate 5 P.Nothing ++ P.Code ∷ P.LengthNeeded ∷ P.Code ∷ P.CodesLeft ∷ P.Nothing ∷ P.Offset ∷ P.Nothing ∷ P.Vertex ∷ P.RankEntry ∷ P.Line ∷ P.Line ∷ P.Nothing ∷ P.Nothing ∷ []
+unfolding those meaningOf
+meanings-are = refl

@@ -1,0 +1,43 @@
+-- What a call gives on any input, each a test of the definitions that the contracts cite. Assumes nothing.
+use mathlib.Core.Bool.{Bool}
+use mathlib.Core.List.{List, [], _∷_}
+use Prim.Native.Nat.{ℕ}
+use Rattle.counting.specs.Lists.{same}
+use Rattle.directory.specs.Building.{Lent}
+use Rattle.directory.specs.Answers.{builtNumbers, openingNumbers, foundNumbers}
+use Rattle.directory.specs.Calls.{buildOf, bufferAfterOf, openOf, lookupOf, showPartOf, listingOf}
+use Rattle.directory.specs.Computing.{computing}
+
+pub data Trial : Type 0 where
+  -- building gives this number and place, and leaves this buffer
+  answers : Lent → ℕ → ℕ → Trial
+  leaves : Lent → List ℕ → Trial
+  -- opening these bytes gives n, r and v, or this number and place
+  opens : List ℕ → ℕ → ℕ → ℕ → Trial
+  fails : List ℕ → ℕ → ℕ → Trial
+  -- looking a code up in these bytes gives a line, Unknown, or this number and place
+  finds : List ℕ → List ℕ → ℕ → Trial
+  misses : List ℕ → List ℕ → Trial
+  rejects : List ℕ → List ℕ → ℕ → ℕ → Trial
+  -- showing a line of these bytes gives the part with this start and size
+  shows : List ℕ → ℕ → ℕ → ℕ → Trial
+  -- the lister writes this text for these bytes
+  prints : List ℕ → List ℕ → Trial
+
+opened : List ℕ → List ℕ
+opened f = let o = openingNumbers (openOf f) in o .0 ∷ o .1 ∷ o .2 ∷ o .3 ∷ o .4 ∷ []
+
+looked : List ℕ → List ℕ → List ℕ
+looked f t = let o = foundNumbers (lookupOf f t) in o .0 ∷ o .1 ∷ o .2 ∷ o .3 ∷ []
+
+unfoldable pub isSo : Trial → Bool
+unfolding opened looked computing
+isSo (answers I number place) = let b = builtNumbers (buildOf I) in same (b .0 ∷ b .1 ∷ []) (number ∷ place ∷ [])
+isSo (leaves I bytes) = same (bufferAfterOf I) bytes
+isSo (opens f n r v) = same (opened f) (0 ∷ 0 ∷ n ∷ r ∷ v ∷ [])
+isSo (fails f number place) = same (opened f) (number ∷ place ∷ 0 ∷ 0 ∷ 0 ∷ [])
+isSo (finds f t l) = same (looked f t) (0 ∷ 0 ∷ 0 ∷ l ∷ [])
+isSo (misses f t) = same (looked f t) (1 ∷ 0 ∷ 0 ∷ 0 ∷ [])
+isSo (rejects f t number place) = same (looked f t) (2 ∷ number ∷ place ∷ 0 ∷ [])
+isSo (shows f l start size) = let p = showPartOf f l in same (p .start ∷ p .size ∷ []) (start ∷ size ∷ [])
+isSo (prints f text) = same (listingOf f) text
