@@ -8,7 +8,7 @@ use lib.ListN.{length, getD}
 use Rattle.counting.specs.Below.{sum, any, lowest, those}
 use Rattle.counting.specs.Lists.{occurrences, same, every}
 use Rattle.graph.specs.Graph.{Graph, names, degreeIn}
-use Rattle.graph.specs.Peeling.{unremoved, joinBack, oneLeft, firstWaiting, follow, followAll, peel, removalList, numberLeft}
+use Rattle.graph.specs.Peeling.{unremoved, joinBack, oneLeft, firstWaiting, follow, followAll, peel, removalList, leftOver, numberLeft}
 use Rattle.graph.specs.Assignment.{landing, assignedBelow, minusMod, fresh, firstUnvisited, visitedSum, assignEdge, assign, values, landingVertex, line}
 
 pub record Example : Type 0 where
@@ -87,5 +87,5 @@ examples =
     ∷ []
 
 pub examples-hold : every holds examples ≡ true
-unfolding graph all asFar holds examples every sum any lowest those occurrences same names degreeIn unremoved joinBack oneLeft firstWaiting follow followAll peel removalList numberLeft landing assignedBelow minusMod fresh firstUnvisited visitedSum assignEdge assign values landingVertex line
+unfolding graph all asFar holds examples every sum any lowest those occurrences same names degreeIn unremoved joinBack oneLeft firstWaiting follow followAll peel removalList leftOver numberLeft landing assignedBelow minusMod fresh firstUnvisited visitedSum assignEdge assign values landingVertex line
 examples-hold = refl

@@ -1,12 +1,11 @@
 -- Peeling: document 01, "Peeling". Assumes nothing.
 use mathlib.Core.Bool.{Bool, _&&_, cond}
 use mathlib.Core.List.{List, [], _∷_, _++_}
-use Prim.Native.Nat.{ℕ, zero, suc, _-_}
+use Prim.Native.Nat.{ℕ, zero, suc}
 use lib.Dec.{eqb}
-use lib.ListN.{length}
 use Rattle.counting.specs.Below.{any, lowest, those}
 use Rattle.counting.specs.Lists.{occurrences}
-use Rattle.graph.specs.Graph.{Graph, names, degreeIn}
+use Rattle.graph.specs.Graph.{Graph, names, degreeIn, size}
 
 -- the edges that are not on the list of the removed ones
 unfoldable pub unremoved : List ℕ → ℕ → Bool
@@ -57,4 +56,4 @@ module _ (G : Graph) where
   leftOver = unremoved removalList
 
   unfoldable pub numberLeft : ℕ
-  numberLeft = edges - length removalList
+  numberLeft = size G leftOver
