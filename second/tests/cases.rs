@@ -3,14 +3,12 @@
 
 mod common;
 
-use common::{coloured, diagonal, directory, refusal, Input};
+use common::{coloured, diagonal, directory, refusal, Input, CASE_1};
 use second::graph::removal_list;
 use second::table::{assigned, landing_vertex, line, rank_entries, values};
 use second::vertices::{sum, vertices};
 use second::{length, list, lookup, open, show, Found, Header};
 
-/// The codes of case 1, in list order.
-const CASE_1: [&[u8]; 4] = [b"BA", b"BB", b"DA", b"BC"];
 /// The vertices of case 1's codes.
 const CASE_1_VERTICES: [[usize; 2]; 4] = [[2, 5], [2, 6], [0, 5], [2, 7]];
 /// The values of case 1.

@@ -4,22 +4,11 @@
 
 mod common;
 
-use common::{coloured, diagonal, directory, refusal, Input};
+use common::{case_1_file, coloured, diagonal, directory, refusal, Input, GV, KY, KY_BYTES, RK};
 use second::graph::removal_list;
 use second::table::{rank_entries, values};
 use second::vertices::vertices;
 use second::{list, lookup, open, show, Found, Header, Part};
-
-/// Where the records of a file with r = 2, v = 4 stand, by hand: HD has 7 bytes, WT 2 + 128,
-/// GV 2 + 2, RK 2 + 2, and each KY 35.
-const GV: usize = 137;
-const RK: usize = 141;
-const KY: usize = 145;
-const KY_BYTES: usize = 35;
-
-fn case_1_file() -> Vec<u8> {
-    directory(&[b"BA", b"BB", b"DA", b"BC"], 2, 4, &diagonal(2))
-}
 
 /// A file with r = 2, v = 4 and case 1's weights, written out by hand.
 fn stranger(value_bytes: [u8; 2], stored: &[&[u8; 2]]) -> Vec<u8> {

@@ -76,6 +76,7 @@ pub const RK: usize = 141;
 pub const KY: usize = 145;
 pub const KY_BYTES: usize = 35;
 
+/// The codes of case 1, in list order.
 pub const CASE_1: [&[u8]; 4] = [b"BA", b"BB", b"DA", b"BC"];
 
 pub fn case_1() -> Input {
