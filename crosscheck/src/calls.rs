@@ -2,7 +2,10 @@
 
 use crate::inputs::{code, Input, Random, BLANK};
 use crate::page::bytes;
-use second::{build as build_file, length, list as list_file, lookup, open, show, CodeList, Found};
+use second::{
+    build as build_file, length, list as list_file, lookup, open, show, CodeList, Found, Header,
+    Part, Refusal,
+};
 use std::collections::BTreeMap;
 use std::fmt;
 
@@ -65,96 +68,89 @@ impl fmt::Display for Tally {
     }
 }
 
-/// Builds, and gives back the file if there is one.
-pub fn build(
-    input: &Input,
-    name: &str,
-    trials: &mut Vec<String>,
-    tally: &mut Tally,
-) -> Option<Vec<u8>> {
+/// The trials of one list so far, and the tally of all lists.
+pub struct Trials<'a> {
+    pub list: Vec<String>,
+    tally: &'a mut Tally,
+}
+
+impl Trials<'_> {
+    pub fn new(tally: &mut Tally) -> Trials<'_> {
+        let list = Vec::new();
+        Trials { list, tally }
+    }
+
+    fn add(&mut self, answer: &str, trial: String) {
+        self.tally.add(answer);
+        self.list.push(trial);
+    }
+}
+
+/// Builds what is lent under this name, and gives back the file if there is one.
+pub fn build(input: &Input, name: &str, trials: &mut Trials) -> Option<Vec<u8>> {
     let list = CodeList {
         run: &input.run,
         ends: &input.ends,
     };
     let mut buffer = vec![BLANK; input.room];
     let answer = build_file(&list, input.r, input.v, &input.weights, &mut buffer);
-    let (number, place) =
-        answer.map_or_else(|refusal| (refusal.number, refusal.place), |()| (0, 0));
-    tally.add(&format!("build {number}"));
-    trials.push(format!("answers {name} {number} {place}"));
-    trials.push(format!("leaves {name} {}", bytes(&buffer)));
+    let (number, place) = answer.map_or_else(|no| (no.number, no.place), |()| (0, 0));
+    let trial = format!("answers {name} {number} {place}");
+    trials.add(&format!("build {number}"), trial);
+    let trial = format!("leaves {name} {}", bytes(&buffer));
+    trials.add("buffer", trial);
     answer.ok()?;
     buffer.truncate(length(input.ends.len() as u64, input.r, input.v)?);
     Some(buffer)
 }
 
-pub fn list(file: &[u8], name: &str, trials: &mut Vec<String>) {
-    trials.push(format!("prints {name} {}", bytes(&list_file(file))));
-}
-
-/// Opens these bytes, looks up a listed code and another, and shows a line. `text` makes the bytes.
+/// Opens and lists these bytes, looks up a listed code and another, and shows a line. `text` makes
+/// the bytes on the page.
 pub fn on_file(
     file: &[u8],
     text: &str,
-    input: &Input,
+    codes: &[Vec<u8>],
     random: &mut Random,
-    trials: &mut Vec<String>,
-    tally: &mut Tally,
+    trials: &mut Trials,
 ) {
-    let opened = open(file);
-    match opened {
-        Ok(header) => {
-            tally.add("open 0");
-            trials.push(format!(
-                "opens {text} {} {} {}",
-                header.n, header.r, header.v
-            ));
-        }
-        Err(refusal) => {
-            tally.add(&format!("open {}", refusal.number));
-            trials.push(format!("fails {text} {} {}", refusal.number, refusal.place));
-            if random.below(4) == 0 {
-                list(file, text, trials);
-            }
-        }
-    }
-    let n = input.codes.len() as u64;
+    open_file(file, text, trials);
+    let listing = format!("prints {text} {}", bytes(&list_file(file)));
+    trials.add("listing", listing);
+    let n = codes.len() as u64;
     if n > 0 {
-        look_up(
-            file,
-            text,
-            &input.codes[random.below(n) as usize],
-            trials,
-            tally,
-        );
+        look_up(file, text, &codes[random.below(n) as usize], trials);
     }
-    look_up(file, text, &code(random, 3), trials, tally);
-    let line = random.below(n + 1);
-    let part = show(file, line);
-    tally.add(match (part.length > 0, opened.is_ok()) {
-        (false, _) => "show nothing",
-        (true, true) => "show a code",
-        (true, false) => "show a code of a file that does not open",
-    });
-    trials.push(format!(
-        "shows {text} {line} {} {}",
-        part.start, part.length
-    ));
+    look_up(file, text, &code(random, 3), trials);
+    show_line(file, text, random.below(n + 1), trials);
 }
 
-fn look_up(file: &[u8], text: &str, code: &[u8], trials: &mut Vec<String>, tally: &mut Tally) {
+fn open_file(file: &[u8], text: &str, trials: &mut Trials) {
+    let (number, trial) = match open(file) {
+        Ok(Header { n, r, v }) => (0, format!("opens {text} {n} {r} {v}")),
+        Err(Refusal { number, place }) => (number, format!("fails {text} {number} {place}")),
+    };
+    trials.add(&format!("open {number}"), trial);
+}
+
+fn look_up(file: &[u8], text: &str, code: &[u8], trials: &mut Trials) {
     let asked = bytes(code);
     let (answer, trial) = match lookup(file, code) {
         Found::At(line) => ("At".to_string(), format!("finds {text} {asked} {line}")),
         Found::Unknown => ("Unknown".to_string(), format!("misses {text} {asked}")),
-        Found::Refused(refusal) => (
-            refusal.number.to_string(),
-            format!(
-                "rejects {text} {asked} {} {}",
-                refusal.number, refusal.place
-            ),
+        Found::Refused(Refusal { number, place }) => (
+            number.to_string(),
+            format!("rejects {text} {asked} {number} {place}"),
         ),
     };
-    tally.add(&format!("lookup {answer}"));
-    trials.push(trial);
+    trials.add(&format!("lookup {answer}"), trial);
+}
+
+fn show_line(file: &[u8], text: &str, line: u64, trials: &mut Trials) {
+    let Part { start, length } = show(file, line);
+    let answer = match (length > 0, open(file).is_ok()) {
+        (false, _) => "show nothing",
+        (true, true) => "show a code",
+        (true, false) => "show a code of a file that does not open",
+    };
+    trials.add(answer, format!("shows {text} {line} {start} {length}"));
 }

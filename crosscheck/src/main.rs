@@ -5,7 +5,7 @@ mod calls;
 mod inputs;
 mod page;
 
-use calls::Tally;
+use calls::{Tally, Trials};
 use inputs::Random;
 use page::Page;
 use std::process::ExitCode;
@@ -16,11 +16,9 @@ const USAGE: &str = "usage: crosscheck SEED LISTS";
 const COPIES: u64 = 11;
 
 fn main() -> ExitCode {
-    let numbers: Vec<u64> = std::env::args()
-        .skip(1)
-        .map_while(|a| a.parse().ok())
-        .collect();
-    let [seed, lists] = numbers[..] else {
+    let arguments = std::env::args().skip(1);
+    let numbers: Option<Vec<u64>> = arguments.map(|word| word.parse().ok()).collect();
+    let Some(&[seed, lists]) = numbers.as_deref() else {
         eprintln!("crosscheck: two numbers are wanted\n{USAGE}");
         return ExitCode::from(2);
     };
@@ -44,22 +42,19 @@ fn main() -> ExitCode {
 /// One random list: its build, and if it builds, the calls on its file and on changed copies.
 fn list(number: u64, random: &mut Random, page: &mut Page, tally: &mut Tally) {
     let input = inputs::input(random);
-    let mut trials = Vec::new();
+    let mut trials = Trials::new(tally);
     let lent = format!("I{number}");
     page.define(&lent, "Lent", &page::lent(&input));
-    let built = calls::build(&input, &lent, &mut trials, tally);
-    if let Some(file) = &built {
+    let mut defined = vec![lent.clone()];
+    if let Some(file) = calls::build(&input, &lent, &mut trials) {
         let name = format!("F{number}");
-        page.define(&name, "List ℕ", &page::bytes(file));
-        calls::list(file, &name, &mut trials);
-        for copy in 0..=COPIES {
-            let (file, text) = if copy == 0 {
-                (file.clone(), name.clone())
-            } else {
-                inputs::changed(file, &name, random)
-            };
-            calls::on_file(&file, &text, &input, random, &mut trials, tally);
+        page.define(&name, "List ℕ", &page::bytes(&file));
+        calls::on_file(&file, &name, &input.codes, random, &mut trials);
+        for _ in 0..COPIES {
+            let (copy, text) = inputs::changed(&file, &name, random);
+            calls::on_file(&copy, &text, &input.codes, random, &mut trials);
         }
+        defined.push(name);
     }
-    page.state(number, built.is_some(), &trials);
+    page.state(number, &defined, &trials.list);
 }

@@ -32,16 +32,14 @@ impl Page {
         self.0 += &format!("\n{name} : {kind}\n{name} = {value}\n");
     }
 
-    /// Theorems that all these trials of list `number` hold.
-    pub fn state(&mut self, number: u64, built: bool, trials: &[String]) {
-        let opened = if built {
-            format!("I{number} F{number}")
-        } else {
-            format!("I{number}")
-        };
+    /// Theorems that all these trials of list `number` hold, which name what is defined.
+    pub fn state(&mut self, number: u64, defined: &[String], trials: &[String]) {
+        let defined = defined.join(" ");
         for (k, part) in trials.chunks(TRIALS_OF_A_THEOREM).enumerate() {
+            let name = format!("list{number}-{k}");
             let list = part.join("\n    ∷ ");
-            self.0 += &format!("\nlist{number}-{k} : every isSo (\n    {list}\n    ∷ []) ≡ true\nunfolding {opened} isSo\nlist{number}-{k} = refl\n");
+            self.0 += &format!("\n{name} : every isSo (\n    {list}\n    ∷ []) ≡ true\n");
+            self.0 += &format!("unfolding {defined} isSo\n{name} = refl\n");
         }
     }
 }
