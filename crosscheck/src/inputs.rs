@@ -41,8 +41,8 @@ pub const BLANK: u8 = 0xAA;
 /// The bytes that codes are made of: few, so that codes meet.
 const LETTERS: [u8; 6] = [0, 1, 65, 66, 67, 255];
 
-/// Positions whose weights are not all 0; no code here is longer.
-const WEIGHED: usize = 4;
+/// The most bytes of a code.
+const LONGEST: u64 = 32;
 
 pub fn code(random: &mut Random, longest: u64) -> Vec<u8> {
     let length = random.below(longest + 1);
@@ -55,15 +55,13 @@ pub fn input(random: &mut Random) -> Input {
     let largest_part = random.one_of(&[1, 4, 8, 8, 50]);
     let v = 1 + random.below(largest_part);
     let largest_weight = random.one_of(&[1, 7, 65_535]);
-    let weights = (0..32 * r as usize)
-        .map(|i| match i % 32 < WEIGHED {
-            true => random.below(largest_weight + 1) as u16,
-            false => 0,
-        })
+    let weights = (0..LONGEST * r)
+        .map(|_| random.below(largest_weight + 1) as u16)
         .collect();
     let n = random.below(6);
+    let longest = random.one_of(&[3, 3, 3, LONGEST]);
     let codes: Vec<Vec<u8>> = (0..n)
-        .map(|_| [&code(random, 2)[..], &[random.one_of(&LETTERS)]].concat())
+        .map(|_| [&code(random, longest - 1)[..], &[random.one_of(&LETTERS)]].concat())
         .collect();
     let (run, ends) = run_and_ends(&codes);
     let needed = length(n, r, v).expect("these sizes are allowed");
