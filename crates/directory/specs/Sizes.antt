@@ -1,7 +1,8 @@
 -- The sizes that document 01 allows: its table "Sizes", and what they come to in a file. Assumes nothing.
 use mathlib.Core.Bool.{Bool, _&&_, _||_}
-use Prim.Native.Nat.{ℕ, _+_, _*_, _/_}
+use Prim.Native.Nat.{ℕ, _+_, _-_, _*_, _/_}
 use lib.Dec.{eqb, ltb, leb}
+use Rattle.graph.specs.Assignment.{blockSize}
 
 abbrev pub mostVertices : ℕ
 mostVertices = 4096
@@ -40,4 +41,4 @@ valueBytes h = (vertexCount h + 3) / 4
 
 -- ceil(m/64), the rank entries, one for each block of 64 vertices
 abbrev pub rankEntries : Header → ℕ
-rankEntries h = (vertexCount h + 63) / 64
+rankEntries h = (vertexCount h + (blockSize - 1)) / blockSize

@@ -14,7 +14,8 @@ use Rattle.directory.specs.Building.{Lent}
 use Rattle.directory.specs.Answers.{groupOf, meaningOf}
 use Rattle.directory.specs.Sayings.{builds, names, peels, ranks, lines, unknown, lands}
 use Rattle.directory.specs.Cases.{Case, holds, plainWeights, BA, BB, BC, DA, DB}
-use Rattle.directory.specs.Trials.{Trial, answers, opens, fails, finds, misses, rejects, shows, prints, isSo}
+use Rattle.directory.specs.Calls.{bufferAfterOf}
+use Rattle.directory.specs.Trials.{Trial, answers, leaves, measures, reads, stops, opens, fails, finds, misses, rejects, shows, prints, isSo}
 
 -- ---- codes that differ from one another in each part: p(j,j) = 1, other weights 0
 
@@ -55,6 +56,13 @@ early = 0x0A ∷ 0x05 ∷ []
 late : List ℕ
 late = 0x5A ∷ 0x06 ∷ []
 
+-- vertices 63 and 105, and 64 and 106: the two sides of the edge of a block
+before : List ℕ
+before = 0x3F ∷ 0x05 ∷ []
+
+behind : List ℕ
+behind = 0x40 ∷ 0x06 ∷ []
+
 -- ---- what is lent, by its run and ends and otherwise as in case 1, and with a buffer of `room` bytes
 
 lentIn : ℕ → List ℕ → List ℕ → Lent
@@ -66,6 +74,21 @@ lentOf = lentIn 400
 -- no codes, by the other numbers
 lentBy : ℕ → ℕ → ℕ → Lent
 lentBy r v weights = record { run = []; ends = []; r = r; v = v; weights = replicate weights 0; buffer = [] }
+
+-- no codes, and numbers that need both of their bytes: v is 0x0102, the first weight 0x0304
+tall : Lent
+tall = record { run = []; ends = []; r = 2; v = 0x0102; weights = 0x0304 ∷ replicate 63 0; buffer = replicate 300 0 }
+
+-- eleven codes of one byte, F5 to FF, at the lines 0 to 10: v = 16, p(0,0) = 1
+eleven : List ℕ
+eleven = 0xF5 ∷ 0xF6 ∷ 0xF7 ∷ 0xF8 ∷ 0xF9 ∷ 0xFA ∷ 0xFB ∷ 0xFC ∷ 0xFD ∷ 0xFE ∷ 0xFF ∷ []
+
+elevenLent : Lent
+elevenLent = record { run = eleven; ends = 1 ∷ 2 ∷ 3 ∷ 4 ∷ 5 ∷ 6 ∷ 7 ∷ 8 ∷ 9 ∷ 10 ∷ 11 ∷ []; r = 2; v = 16; weights = 1 ∷ replicate 63 0; buffer = replicate 536 0 }
+
+-- a KY record of a two-byte code
+keyOf : ℕ → ℕ → List ℕ
+keyOf x y = 0x4B ∷ 0x59 ∷ 2 ∷ x ∷ y ∷ replicate 30 0
 
 -- ---- a file with r = 2 and case 1's weights, by v, its values and its codes in line order
 
@@ -90,6 +113,7 @@ worked =
     record { r = 3; v = 5; weights = diagonal; codes = CFF ∷ BAE ∷ CCD ∷ BDF ∷ FDE ∷ []; sayings = peels (CCD ∷ FDE ∷ CFF ∷ BDF ∷ BAE ∷ []) ∷ lines CFF 2 ∷ lines BAE 1 ∷ lines CCD 3 ∷ lines BDF 4 ∷ lines FDE 0 ∷ lands FEF 10 ∷ unknown FEF ∷ builds 386 ∷ [] }
     ∷ record { r = 3; v = 2; weights = diagonal; codes = BAA ∷ AAA ∷ BBB ∷ []; sayings = names BAA (0 ∷ 3 ∷ 5 ∷ []) ∷ peels (AAA ∷ BBB ∷ BAA ∷ []) ∷ lines BAA 0 ∷ lines AAA 1 ∷ lines BBB 2 ∷ builds 314 ∷ [] }
     ∷ record { r = 2; v = 100; weights = plainWeights; codes = early ∷ late ∷ []; sayings = ranks (0 ∷ 1 ∷ 2 ∷ 2 ∷ []) ∷ lines early 0 ∷ lines late 1 ∷ builds 269 ∷ [] }
+    ∷ record { r = 2; v = 100; weights = plainWeights; codes = before ∷ behind ∷ []; sayings = ranks (0 ∷ 1 ∷ 2 ∷ 2 ∷ []) ∷ lines before 0 ∷ lines behind 1 ∷ builds 269 ∷ [] }
     ∷ []
 
 pub trials : List Trial
@@ -102,10 +126,12 @@ trials =
     ∷ answers (lentBy 3 1366 0) 2 0
     ∷ answers (lentBy 3 1 64) 3 0
     ∷ answers (lentBy 2 1 96) 3 0
+    ∷ answers (lentOf [] (replicate 1025 0)) 4 0
     -- 5: an end falls, an end passes the run, a code is empty, a code has 33 bytes; the last end misses the run's length
     ∷ answers (lentOf (replicate 4 65) (2 ∷ 1 ∷ 4 ∷ [])) 5 1
     ∷ answers (lentOf (replicate 4 65) (2 ∷ 3 ∷ 5 ∷ [])) 5 2
     ∷ answers (lentOf (replicate 4 65) (0 ∷ 4 ∷ [])) 5 0
+    ∷ answers (lentOf (replicate 4 65) (2 ∷ 2 ∷ 4 ∷ [])) 5 1
     ∷ answers (lentOf (replicate 33 65) (33 ∷ [])) 5 0
     ∷ answers (lentOf (replicate 32 65) (32 ∷ [])) 0 0
     ∷ answers (lentOf (replicate 5 65) (2 ∷ 4 ∷ [])) 5 2
@@ -113,10 +139,29 @@ trials =
     -- 6 before 7, and 7 before 8
     ∷ answers (lentIn 284 (BA ++ BB ++ BA ++ BA) (2 ∷ 4 ∷ 6 ∷ 8 ∷ [])) 6 285
     ∷ answers (lentIn 285 (BA ++ BB ++ BB ++ BA) (2 ∷ 4 ∷ 6 ∷ 8 ∷ [])) 7 2
+    -- the length of a file; 0 where the sizes do not allow the numbers
+    ∷ measures 4 2 4 285
+    ∷ measures 1024 3 1365 37197
+    ∷ measures 1025 3 1365 0
+    ∷ measures 0 4 1 0
+    ∷ measures 0 2 0 0
+    -- every byte of case 1's file: HD, WT, GV, RK and the four KY, and the buffer's byte after it
+    ∷ leaves (lentIn 286 (BA ++ BB ++ DA ++ BC) (2 ∷ 4 ∷ 6 ∷ 8 ∷ [])) (0x48 ∷ 0x44 ∷ 4 ∷ 0 ∷ 2 ∷ 4 ∷ 0 ∷ 0x57 ∷ 0x54 ∷ 1 ∷ 0 ∷ replicate 64 0 ++ 1 ∷ 0 ∷ replicate 60 0 ++ 0x47 ∷ 0x56 ∷ 0x88 ∷ 0x5A ∷ 0x52 ∷ 0x4B ∷ 0 ∷ 0 ∷ keyOf 0x44 0x41 ++ keyOf 0x42 0x41 ++ keyOf 0x42 0x42 ++ keyOf 0x42 0x43 ++ 0 ∷ [])
+    -- the low byte first: v and a weight; m = 516 has 129 bytes of values and 9 rank entries
+    ∷ leaves tall (0x48 ∷ 0x44 ∷ 0 ∷ 0 ∷ 2 ∷ 0x02 ∷ 0x01 ∷ 0x57 ∷ 0x54 ∷ 0x04 ∷ 0x03 ∷ replicate 126 0 ++ 0x47 ∷ 0x56 ∷ replicate 129 0xAA ++ 0x52 ∷ 0x4B ∷ replicate 18 0 ++ replicate 12 0)
+    -- the header alone: 9, 10, 11, 9, and nothing after them
+    ∷ reads one 4 2 4
+    ∷ reads (set (set one 8 0) 139 0xFF) 4 2 4
+    ∷ stops (take 6 one) 9 0
+    ∷ stops (replicate 7 0) 10 0
+    ∷ stops (set one 4 4) 11 0
+    ∷ stops (one ++ 0 ∷ []) 9 0
     -- opening: 9, 10, 11, 9
+    ∷ opens (take 288 (bufferAfterOf tall)) 0 2 258
     ∷ opens one 4 2 4
     ∷ fails [] 9 0
     ∷ fails (take 6 one) 9 0
+    ∷ fails (replicate 7 0) 10 0
     ∷ fails (set one 1 0x45) 10 0
     ∷ fails (set one 3 4) 11 0
     ∷ fails (set one 4 4) 11 0
@@ -166,8 +211,10 @@ trials =
     ∷ rejects (set wide 193 9) late 13 1
     ∷ rejects (set one 139 0x8C) BC 13 0
     ∷ rejects (fileBy 4 (2 ∷ 2 ∷ 0 ∷ []) []) BA 13 0
-    -- the lister, for a file that does not open: refused 9 0
+    -- the lister: refused 9 0, refused 10 250, and eleven lines, the last of them 10 ff
     ∷ prints [] (0x72 ∷ 0x65 ∷ 0x66 ∷ 0x75 ∷ 0x73 ∷ 0x65 ∷ 0x64 ∷ 0x20 ∷ 0x39 ∷ 0x20 ∷ 0x30 ∷ 0x0A ∷ [])
+    ∷ prints (set one 250 0) (0x72 ∷ 0x65 ∷ 0x66 ∷ 0x75 ∷ 0x73 ∷ 0x65 ∷ 0x64 ∷ 0x20 ∷ 0x31 ∷ 0x30 ∷ 0x20 ∷ 0x32 ∷ 0x35 ∷ 0x30 ∷ 0x0A ∷ [])
+    ∷ prints (bufferAfterOf elevenLent) (0x30 ∷ 0x20 ∷ 0x66 ∷ 0x35 ∷ 0x0A ∷ 0x31 ∷ 0x20 ∷ 0x66 ∷ 0x36 ∷ 0x0A ∷ 0x32 ∷ 0x20 ∷ 0x66 ∷ 0x37 ∷ 0x0A ∷ 0x33 ∷ 0x20 ∷ 0x66 ∷ 0x38 ∷ 0x0A ∷ 0x34 ∷ 0x20 ∷ 0x66 ∷ 0x39 ∷ 0x0A ∷ 0x35 ∷ 0x20 ∷ 0x66 ∷ 0x61 ∷ 0x0A ∷ 0x36 ∷ 0x20 ∷ 0x66 ∷ 0x62 ∷ 0x0A ∷ 0x37 ∷ 0x20 ∷ 0x66 ∷ 0x63 ∷ 0x0A ∷ 0x38 ∷ 0x20 ∷ 0x66 ∷ 0x64 ∷ 0x0A ∷ 0x39 ∷ 0x20 ∷ 0x66 ∷ 0x65 ∷ 0x0A ∷ 0x31 ∷ 0x30 ∷ 0x20 ∷ 0x66 ∷ 0x66 ∷ 0x0A ∷ [])
     -- showing: the mark and the filling are not looked at
     ∷ shows one 2 218 2
     ∷ shows (set one 215 0) 2 218 2
@@ -181,7 +228,7 @@ trials =
     ∷ []
 
 pub witnesses-hold : every holds worked && every isSo trials ≡ true
-unfolding diagonal AAA BAA BAE BBB BDF CCD CFF FDE FEF early late lentIn lentOf lentBy fileBy one ten wide worked trials plainWeights BA BB BC DA DB holds isSo
+unfolding diagonal AAA BAA BAE BBB BDF CCD CFF FDE FEF early late before behind lentIn lentOf lentBy tall eleven elevenLent keyOf fileBy one ten wide worked trials plainWeights BA BB BC DA DB holds isSo
 witnesses-hold = refl
 
 -- ---- the numbers 0 to 17: their groups, and what their places mean
