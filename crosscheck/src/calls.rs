@@ -2,6 +2,7 @@
 
 use crate::inputs::{code, Input, Random, BLANK};
 use crate::page::bytes;
+use second::header::checked_header;
 use second::{
     build as build_file, length, list as list_file, lookup, open, show, CodeList, Found, Header,
     Part, Refusal,
@@ -13,17 +14,23 @@ use std::fmt;
 #[derive(Default)]
 pub struct Tally(BTreeMap<String, u32>);
 
-/// Every answer that a page has to hold at least once. Refusal 4 wants 1,025 codes, which are too
-/// many to compute with.
-const WANTED: [&str; 26] = [
+/// Every answer that a page has to hold at least once.
+const WANTED: [&str; 33] = [
     "build 0",
     "build 1",
     "build 2",
     "build 3",
+    "build 4",
     "build 5",
     "build 6",
     "build 7",
     "build 8",
+    "length of a file",
+    "length of no file",
+    "header 0",
+    "header 9",
+    "header 10",
+    "header 11",
     "open 0",
     "open 9",
     "open 10",
@@ -99,12 +106,23 @@ pub fn build(input: &Input, name: &str, trials: &mut Trials) -> Option<Vec<u8>> 
     trials.add(&format!("build {number}"), trial);
     let trial = format!("leaves {name} {}", bytes(&buffer));
     trials.add("buffer", trial);
+    let size = measure(input.ends.len() as u64, input.r, input.v, trials);
     answer.ok()?;
-    buffer.truncate(length(input.ends.len() as u64, input.r, input.v)?);
+    buffer.truncate(size);
     Some(buffer)
 }
 
-/// Opens and lists these bytes, looks up a listed code and another, and shows a line. `text` makes
+/// The length of the file for n, r and v; 0 where the sizes do not allow them.
+fn measure(n: u64, r: u64, v: u64, trials: &mut Trials) -> usize {
+    let (answer, size) = match length(n, r, v) {
+        Some(size) => ("length of a file", size),
+        None => ("length of no file", 0),
+    };
+    trials.add(answer, format!("measures {n} {r} {v} {size}"));
+    size
+}
+
+/// Reads the header of these bytes, opens and lists them, looks up a listed code and another, and shows a line. `text` makes
 /// the bytes on the page.
 pub fn on_file(
     file: &[u8],
@@ -113,7 +131,9 @@ pub fn on_file(
     random: &mut Random,
     trials: &mut Trials,
 ) {
-    open_file(file, text, trials);
+    let header = checked_header(file);
+    open_trial("header", ["reads", "stops"], header, text, trials);
+    open_trial("open", ["opens", "fails"], open(file), text, trials);
     let listing = format!("prints {text} {}", bytes(&list_file(file)));
     trials.add("listing", listing);
     let n = codes.len() as u64;
@@ -124,12 +144,20 @@ pub fn on_file(
     show_line(file, text, random.below(n + 1), trials);
 }
 
-fn open_file(file: &[u8], text: &str, trials: &mut Trials) {
-    let (number, trial) = match open(file) {
-        Ok(Header { n, r, v }) => (0, format!("opens {text} {n} {r} {v}")),
-        Err(Refusal { number, place }) => (number, format!("fails {text} {number} {place}")),
+/// What a call gave as n, r and v or as a refusal, in the words that the page has for the two.
+fn open_trial(
+    call: &str,
+    words: [&str; 2],
+    given: Result<Header, Refusal>,
+    text: &str,
+    trials: &mut Trials,
+) {
+    let [done, refused] = words;
+    let (number, trial) = match given {
+        Ok(Header { n, r, v }) => (0, format!("{done} {text} {n} {r} {v}")),
+        Err(Refusal { number, place }) => (number, format!("{refused} {text} {number} {place}")),
     };
-    trials.add(&format!("open {number}"), trial);
+    trials.add(&format!("{call} {number}"), trial);
 }
 
 fn look_up(file: &[u8], text: &str, code: &[u8], trials: &mut Trials) {

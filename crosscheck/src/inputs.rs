@@ -44,6 +44,9 @@ const LETTERS: [u8; 6] = [0, 1, 65, 66, 67, 255];
 /// The most bytes of a code.
 const LONGEST: u64 = 32;
 
+/// One code more than a directory may hold.
+const TOO_MANY_CODES: usize = 1_025;
+
 pub fn code(random: &mut Random, longest: u64) -> Vec<u8> {
     let length = random.below(longest + 1);
     (0..length).map(|_| random.one_of(&LETTERS)).collect()
@@ -83,12 +86,13 @@ pub fn input(random: &mut Random) -> Input {
 
 fn put_fault(input: &mut Input, needed: usize, random: &mut Random) {
     let n = input.ends.len() as u64;
-    match random.below(6) {
+    match random.below(7) {
         0 => input.r = random.one_of(&[0, 1, 4, 5]),
         1 => input.v = random.one_of(&[0, 2_049, 5_000]),
         2 => input.weights.truncate(random.below(64) as usize),
         3 if n > 0 => input.ends[random.below(n) as usize] = random.below(9) as u16,
         4 => input.run.push(0),
+        5 => input.ends = vec![0; TOO_MANY_CODES],
         _ => input.room = random.below(needed as u64) as usize,
     }
 }

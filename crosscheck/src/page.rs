@@ -9,7 +9,7 @@ use Prim.Native.Nat.{ℕ}
 use lib.ListN.{take, set, replicate}
 use Rattle.counting.specs.Lists.{every}
 use Rattle.directory.specs.Building.{Lent}
-use Rattle.directory.specs.Trials.{answers, leaves, opens, fails, finds, misses, rejects, shows, prints, isSo}
+use Rattle.directory.specs.Trials.{answers, leaves, measures, reads, stops, opens, fails, finds, misses, rejects, shows, prints, isSo}
 ";
 
 /// Trials of one theorem: few enough for the checker's limit on one computation.
