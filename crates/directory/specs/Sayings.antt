@@ -78,6 +78,12 @@ isUnknown (found.Refused number place) = false
 upTo : ℕ → List ℕ
 upTo k = those k (λ i. true)
 
+sameCodes : List (List ℕ) → List (List ℕ) → Bool
+sameCodes [] [] = true
+sameCodes [] (t ∷ l) = false
+sameCodes (s ∷ k) [] = false
+sameCodes (s ∷ k) (t ∷ l) = same s t && sameCodes k l
+
 joined : List (List ℕ) → List ℕ
 joined [] = []
 joined (t ∷ l) = t ++ joined l
@@ -98,7 +104,7 @@ landingIn f t = landing (headerIn f .r) (valueAt f) (vertexIn f t)
 
 -- whether it is true of what is lent and of the file f that was written
 unfoldable pub isTrue : Lent → List ℕ → Saying → Bool
-unfolding isDone isRefused isOpened isAt isUnknown upTo joined vertexIn valueAt landingIn
+unfolding isDone isRefused isOpened isAt isUnknown upTo sameCodes joined vertexIn valueAt landingIn
 isTrue I f (refuses number place) = isRefused number place (buildOf I) && same (bufferAfterOf I) (I .buffer)
 isTrue I f (builds size) =
     isDone (buildOf I)
@@ -107,7 +113,7 @@ isTrue I f (builds size) =
     && eqb (length (bufferAfterOf I)) (length (I .buffer))
     && isOpened (header HD I) (openOf f)
 isTrue I f (names t vertices) = same (map (vertex HD (I .v) (weight HD I) t) (upTo (I .r))) vertices
-isTrue I f (peels codes) = same (joined (map (codeOf HD I) (removalList (graph HD I)))) (joined codes) && eqb (length (removalList (graph HD I))) (length codes)
+isTrue I f (peels codes) = sameCodes (map (codeOf HD I) (removalList (graph HD I))) codes
 isTrue I f (holdsValues list) =
     let all = upTo (vertexCount (header HD I)) in
     same (map (values (graph HD I)) all) list && same (map (valueAt f) all) list
