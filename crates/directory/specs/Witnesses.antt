@@ -75,9 +75,9 @@ lentOf = lentIn 400
 lentBy : ℕ → ℕ → ℕ → Lent
 lentBy r v weights = record { run = []; ends = []; r = r; v = v; weights = replicate weights 0; buffer = [] }
 
--- no codes, and numbers that need both of their bytes: v is 0x0102, the first weight 0x0304
+-- no codes, and numbers that need both of their bytes: v is 0x0102, the first weight 0xFF01
 tall : Lent
-tall = record { run = []; ends = []; r = 2; v = 0x0102; weights = 0x0304 ∷ replicate 63 0; buffer = replicate 300 0 }
+tall = record { run = []; ends = []; r = 2; v = 0x0102; weights = 0xFF01 ∷ replicate 63 0; buffer = replicate 300 0 }
 
 -- eleven codes of one byte, F5 to FF, at the lines 0 to 10: v = 16, p(0,0) = 1
 eleven : List ℕ
@@ -142,13 +142,15 @@ trials =
     -- the length of a file; 0 where the sizes do not allow the numbers
     ∷ measures 4 2 4 285
     ∷ measures 1024 3 1365 37197
+    -- m = 129: a byte and a rank entry for the last vertex alone
+    ∷ measures 0 3 43 244
     ∷ measures 1025 3 1365 0
     ∷ measures 0 4 1 0
     ∷ measures 0 2 0 0
     -- every byte of case 1's file: HD, WT, GV, RK and the four KY, and the buffer's byte after it
     ∷ leaves (lentIn 286 (BA ++ BB ++ DA ++ BC) (2 ∷ 4 ∷ 6 ∷ 8 ∷ [])) (0x48 ∷ 0x44 ∷ 4 ∷ 0 ∷ 2 ∷ 4 ∷ 0 ∷ 0x57 ∷ 0x54 ∷ 1 ∷ 0 ∷ replicate 64 0 ++ 1 ∷ 0 ∷ replicate 60 0 ++ 0x47 ∷ 0x56 ∷ 0x88 ∷ 0x5A ∷ 0x52 ∷ 0x4B ∷ 0 ∷ 0 ∷ keyOf 0x44 0x41 ++ keyOf 0x42 0x41 ++ keyOf 0x42 0x42 ++ keyOf 0x42 0x43 ++ 0 ∷ [])
     -- the low byte first: v and a weight; m = 516 has 129 bytes of values and 9 rank entries
-    ∷ leaves tall (0x48 ∷ 0x44 ∷ 0 ∷ 0 ∷ 2 ∷ 0x02 ∷ 0x01 ∷ 0x57 ∷ 0x54 ∷ 0x04 ∷ 0x03 ∷ replicate 126 0 ++ 0x47 ∷ 0x56 ∷ replicate 129 0xAA ++ 0x52 ∷ 0x4B ∷ replicate 18 0 ++ replicate 12 0)
+    ∷ leaves tall (0x48 ∷ 0x44 ∷ 0 ∷ 0 ∷ 2 ∷ 0x02 ∷ 0x01 ∷ 0x57 ∷ 0x54 ∷ 0x01 ∷ 0xFF ∷ replicate 126 0 ++ 0x47 ∷ 0x56 ∷ replicate 129 0xAA ++ 0x52 ∷ 0x4B ∷ replicate 18 0 ++ replicate 12 0)
     -- the header alone: 9, 10, 11, 9, and nothing after them
     ∷ reads one 4 2 4
     ∷ reads (set (set one 8 0) 139 0xFF) 4 2 4
