@@ -52,8 +52,8 @@ pub fn code(random: &mut Random, longest: u64) -> Vec<u8> {
     (0..length).map(|_| random.one_of(&LETTERS)).collect()
 }
 
-/// A list that the sizes allow, with one fault in every third.
-pub fn input(random: &mut Random) -> Input {
+/// List `number`, which the sizes allow; every third has a fault, each kind in turn.
+pub fn input(number: u64, random: &mut Random) -> Input {
     let r = 2 + random.below(2);
     let largest_part = random.one_of(&[1, 4, 8, 8, 50]);
     let v = 1 + random.below(largest_part);
@@ -78,21 +78,29 @@ pub fn input(random: &mut Random) -> Input {
         weights,
         room,
     };
-    if random.below(3) == 0 {
-        put_fault(&mut input, needed, random);
+    if number.is_multiple_of(3) {
+        put_fault(number / 3 % FAULTS, &mut input, needed, random);
     }
     input
 }
 
-fn put_fault(input: &mut Input, needed: usize, random: &mut Random) {
+/// The kinds of fault that an input can have.
+const FAULTS: u64 = 8;
+
+fn put_fault(kind: u64, input: &mut Input, needed: usize, random: &mut Random) {
     let n = input.ends.len() as u64;
-    match random.below(7) {
+    match kind {
         0 => input.r = random.one_of(&[0, 1, 4, 5]),
         1 => input.v = random.one_of(&[0, 2_049, 5_000]),
         2 => input.weights.truncate(random.below(64) as usize),
         3 if n > 0 => input.ends[random.below(n) as usize] = random.below(9) as u16,
         4 => input.run.push(0),
         5 => input.ends = vec![0; TOO_MANY_CODES],
+        6 if n > 0 => {
+            input.run.extend_from_slice(&input.codes[0]);
+            input.ends.push(input.run.len() as u16);
+            input.room += KEY_BYTES;
+        }
         _ => input.room = random.below(needed as u64) as usize,
     }
 }

@@ -41,7 +41,7 @@ fn main() -> ExitCode {
 
 /// One random list: its build, and if it builds, the calls on its file and on changed copies.
 fn list(number: u64, random: &mut Random, page: &mut Page, tally: &mut Tally) {
-    let input = inputs::input(random);
+    let input = inputs::input(number, random);
     let mut trials = Trials::new(tally);
     let lent = format!("I{number}");
     page.define(&lent, "Lent", &page::lent(&input));
