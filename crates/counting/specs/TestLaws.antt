@@ -1,7 +1,28 @@
--- What two tests joined by "and" or "or" tell of each. Assumes nothing.
+-- Tests: two numbers compared, and two truth values joined by "and" or "or". Assumes nothing.
 use mathlib.Core.Path.{_≡_, refl}
-use mathlib.Core.Logic.{_⊎_, inl, inr}
+use mathlib.Core.Logic.{_⊎_, inl, inr, _≢_}
 use mathlib.Core.Bool.{Bool, true, false, _&&_, _||_}
+use Prim.Native.Nat.{ℕ, _≤_, _<_}
+use native.Mathlib.Omega.{arith}
+use lib.Dec.{eqb, ltb}
+use borrow.Author.Tests.{eqb-true, eqb-false, ltb-true, ltb-false}
+
+pub eq? : (a b : ℕ) → (a ≡ b) ⊎ (a ≢ b)
+eq? a b = go (eqb a b) refl
+  where
+    go : (t : Bool) → eqb a b ≡ t → (a ≡ b) ⊎ (a ≢ b)
+    go true e = inl (eqb-true a b e)
+    go false e = inr (eqb-false a b e)
+
+pub lt? : (a b : ℕ) → (a < b) ⊎ (b ≤ a)
+lt? a b = go (ltb a b) refl
+  where
+    go : (t : Bool) → ltb a b ≡ t → (a < b) ⊎ (b ≤ a)
+    go true e = inl (ltb-true a b e)
+    go false e = inr (ltb-false a b e)
+
+pub clash : {b : Bool} → b ≡ true → b ≡ false → ⊥
+clash t f = let z : _≡_ {A = ℕ} 0 1 = cc in omega arith
 
 pub and-left : (a b : Bool) → a && b ≡ true → a ≡ true
 and-left true b t = refl
@@ -11,6 +32,25 @@ pub and-right : (a b : Bool) → a && b ≡ true → b ≡ true
 and-right true b t = t
 and-right false b t = cc
 
+pub and-both : {a b : Bool} → a ≡ true → b ≡ true → a && b ≡ true
+and-both s t = cc
+
+pub and-false : (a : Bool) → a && false ≡ false
+and-false true = refl
+and-false false = refl
+
+pub and-true : (a : Bool) → a && true ≡ a
+and-true true = refl
+and-true false = refl
+
 pub or-either : (a b : Bool) → a || b ≡ true → (a ≡ true) ⊎ (b ≡ true)
 or-either true b t = inl refl
 or-either false b t = inr t
+
+pub or-second : (a b : Bool) → b ≡ true → a || b ≡ true
+or-second true b t = refl
+or-second false b t = t
+
+pub or-neither : (a b : Bool) → a || b ≡ false → a ≡ false
+or-neither true b t = t
+or-neither false b t = refl

@@ -1,6 +1,7 @@
 -- A graph: edges, each of which names as many vertices as the arity says. In the directory an edge is a code of the list. Assumes nothing.
+use mathlib.Core.Path.{_≡_}
 use mathlib.Core.Bool.{Bool, _&&_}
-use Prim.Native.Nat.{ℕ}
+use Prim.Native.Nat.{ℕ, _≤_, _<_}
 use lib.Dec.{eqb}
 use Rattle.counting.specs.Below.{count, any}
 
@@ -12,6 +13,12 @@ pub record Graph : Type 0 where
   pub vertices : ℕ
   -- vertex j of edge e, for j = 0, 1, .. below the arity
   pub vertexOf : ℕ → ℕ → ℕ
+
+-- each edge names at least one vertex, each vertex that it names is one of the graph's, and they differ
+pub record Proper (G : Graph) : Type 0 where
+  pub some : 1 ≤ G .arity
+  pub inside : (e j : ℕ) → e < G .edges → j < G .arity → G .vertexOf e j < G .vertices
+  pub apart : (e j k : ℕ) → e < G .edges → j < G .arity → k < G .arity → G .vertexOf e j ≡ G .vertexOf e k → j ≡ k
 
 module _ (G : Graph) where
   open Graph G using (edges, arity, vertexOf)

@@ -1,5 +1,9 @@
 pub mod Graph
 pub mod Peeling
+pub mod Run
 pub mod Group
 pub mod Assignment
 pub mod Examples
+pub mod DegreeLaws
+pub mod QueueLaws
+pub mod PeelingLaws

@@ -1,0 +1,166 @@
+-- The run of the peeling: what holds at its start, at each moment and at its end; more steps change nothing. Assumes nothing.
+use mathlib.Core.Path.{_≡_, refl, sym, ap, _∙_}
+use mathlib.Core.Logic.{⊎-elim}
+use mathlib.Core.Bool.{Bool, true, false}
+use mathlib.Core.List.{List, [], _∷_, _++_, append-assoc, append-nil}
+use Prim.Native.Nat.{ℕ, zero, suc, _+_, _≤_, _<_}
+use native.Mathlib.Omega.{arith}
+use lib.Dec.{eqb}
+use lib.ListN.{length, drop, length-append}
+use lib.Seq.{drop-append-seam}
+use borrow.Author.Tests.{eqb-true, eq-eqb}
+use Rattle.counting.specs.TestLaws.{lt?}
+use Rattle.counting.specs.Below.{sum, bit, any}
+use Rattle.counting.specs.BelowLaws.{sum-equal, sum-add, sum-constant}
+use Rattle.counting.specs.CountLaws.{bit-true, bit-most, bit-self}
+use Rattle.counting.specs.SearchLaws.{any-has, any-some}
+use Rattle.counting.specs.Lists.{occurrences}
+use Rattle.counting.specs.OccurrenceLaws.{occurrences-append, occurrences-back, occurrences-length, those-past, those-once}
+use Rattle.graph.specs.Graph.{Graph, names, size}
+use Rattle.graph.specs.Peeling.{unremoved, degree, firstWaiting, followAll, peel, removalList, leftOver, numberLeft}
+use Rattle.graph.specs.Run.{Reached, start, step, joining, everWaiting}
+use Rattle.graph.specs.DegreeLaws.{unremoved-before, names-at, names-some, degree-mono, degree-less}
+use Rattle.graph.specs.QueueLaws.{Sound, Complete, sound-room, follow-all-sound, follow-all-grows, follow-all-in, follow-all-back}
+
+module _ (G : Graph) where
+  open Graph G using (edges, arity, vertexOf)
+
+  pub record Peeled (removed waiting : List ℕ) : Type 0 where
+    pub sound : Sound G removed waiting
+    pub complete : Complete G removed waiting
+
+  -- ---- the start
+
+  pub start-peeled : Peeled [] (firstWaiting G)
+  unfolding firstWaiting occurrences
+  start-peeled =
+      record {
+        sound =
+            record {
+              once = λ e. ⊎-elim (λ (l : e < edges). omega (arith, those-once edges hasOne e l, bit-most (hasOne e))) (λ (l : edges ≤ e). omega (arith, those-past edges hasOne e l)) (lt? e edges);
+              isEdge = below;
+              alone =
+                  λ e m.
+                  let w = any-some arity _ (bit-true (hasOne e) (omega (arith, those-once edges hasOne e (below e (omega arith))))) in
+                  let d : degree G [] (vertexOf e (w .0)) ≡ 1 = eqb-true _ _ (w .2) in
+                  (w .0, w .1, omega arith);
+            };
+        complete = λ e j l m o d. omega (arith, those-once edges hasOne e l, ap bit (any-has arity (λ i. eqb (degree G [] (vertexOf e i)) 1) j m (eq-eqb _ _ d)));
+      }
+    where
+      hasOne : ℕ → Bool
+      hasOne e = any arity (λ j. eqb (degree G [] (vertexOf e j)) 1)
+
+      below : (e : ℕ) → 1 ≤ occurrences e [] + occurrences e (firstWaiting G) → e < edges
+      below e m = ⊎-elim (λ (l : e < edges). l) (λ (l : edges ≤ e). absurd (omega (arith, those-past edges hasOne e l))) (lt? e edges)
+
+  -- ---- a step
+
+  module _ {removed : List ℕ} {front : ℕ} {waiting : List ℕ} where
+    pub front-edge : Sound G removed (front ∷ waiting) → front < edges
+    unfolding occurrences
+    front-edge s = s .isEdge front (omega (arith, bit-self front))
+
+    pub front-absent : Sound G removed (front ∷ waiting) → occurrences front removed ≡ 0
+    unfolding occurrences
+    front-absent s = omega (arith, s .once front, bit-self front)
+
+    pub step-sound : Sound G removed (front ∷ waiting) → Sound G (removed ++ front ∷ []) waiting
+    unfolding occurrences
+    step-sound s =
+        record {
+          once = λ e. omega (arith, s .once e, occurrences-back e front removed);
+          isEdge = λ e m. s .isEdge e (omega (arith, occurrences-back e front removed));
+          alone = λ e m. let w = s .alone e (omega arith) in (w .0, w .1, omega (arith, w .2, degree-mono G (unremoved (removed ++ front ∷ [])) (unremoved removed) (vertexOf e (w .0)) (λ i l t. unremoved-before removed front i t)));
+        }
+
+    step-complete : Peeled removed (front ∷ waiting) → Complete G (removed ++ front ∷ []) (followAll G (removed ++ front ∷ []) front arity waiting)
+    unfolding occurrences
+    step-complete p e j l m o d = go (names G front (vertexOf e j)) refl
+      where
+        go : (b : Bool) → names G front (vertexOf e j) ≡ b → 1 ≤ occurrences e (followAll G (removed ++ front ∷ []) front arity waiting)
+        go true t =
+            let w = names-some G front (vertexOf e j) t in
+            follow-all-in G (removed ++ front ∷ []) front arity waiting (w .0) e (w .1) (rw (w .2) d) (record { isEdge = l; absent = o; named = names-at G e j _ m (sym (w .2)) })
+        go false t =
+            let same : degree G removed (vertexOf e j) ≡ 1 = omega (arith, degree-less G removed front (vertexOf e j) (front-edge (p .sound)) (front-absent (p .sound)), ap bit t, d) in
+            omega (arith, p .complete e j l m (omega (arith, o, occurrences-back e front removed)) same, follow-all-grows G (removed ++ front ∷ []) front arity waiting e, o, occurrences-back e front removed)
+
+    pub step-peeled : Peeled removed (front ∷ waiting) → Peeled (removed ++ front ∷ []) (followAll G (removed ++ front ∷ []) front arity waiting)
+    step-peeled p = record { sound = follow-all-sound G (removed ++ front ∷ []) front arity waiting (step-sound (p .sound)); complete = step-complete p }
+
+  fuel-step : (removed : List ℕ) (front k : ℕ) → edges ≤ length removed + suc k → edges ≤ length (removed ++ front ∷ []) + k
+  fuel-step removed front k h = omega (arith, length-append removed (front ∷ []))
+
+  pub reached-peeled : {removed waiting : List ℕ} → Reached G removed waiting → Peeled removed waiting
+  reached-peeled start = start-peeled
+  reached-peeled (step r) = step-peeled (reached-peeled r)
+
+  -- ---- the end
+
+  -- with a step for each edge that is not removed yet, none waits at the end
+  pub peel-end : (k : ℕ) (removed waiting : List ℕ) → edges ≤ length removed + k → Peeled removed waiting → Peeled (peel G k removed waiting) []
+  unfolding peel
+  peel-end zero removed [] h p = p
+  peel-end zero removed (front ∷ waiting) h p = absurd (omega (arith, sound-room G removed (front ∷ waiting) (p .sound)))
+  peel-end (suc k) removed [] h p = p
+  peel-end (suc k) removed (front ∷ waiting) h p = peel-end k _ _ (fuel-step removed front k h) (step-peeled p)
+
+  pub peel-none : (k : ℕ) (removed : List ℕ) → peel G k removed [] ≡ removed
+  unfolding peel
+  peel-none zero removed = refl
+  peel-none (suc k) removed = refl
+
+  -- any two numbers of steps that are enough give the same
+  peel-enough : (k m : ℕ) (removed waiting : List ℕ) → edges ≤ length removed + k → edges ≤ length removed + m → Sound G removed waiting → peel G k removed waiting ≡ peel G m removed waiting
+  unfolding peel
+  peel-enough zero m removed [] h i s = sym (peel-none m removed)
+  peel-enough zero m removed (front ∷ waiting) h i s = absurd (omega (arith, sound-room G removed (front ∷ waiting) s))
+  peel-enough (suc k) m removed [] h i s = sym (peel-none m removed)
+  peel-enough (suc k) zero removed (front ∷ waiting) h i s = absurd (omega (arith, sound-room G removed (front ∷ waiting) s))
+  peel-enough (suc k) (suc m) removed (front ∷ waiting) h i s = peel-enough k m _ _ (fuel-step removed front k h) (fuel-step removed front m i) (follow-all-sound G _ front arity waiting (step-sound s))
+
+  -- from each moment the run ends with the removal list
+  pub reached-removal : {removed waiting : List ℕ} → Reached G removed waiting → (k : ℕ) → edges ≤ length removed + k → peel G k removed waiting ≡ removalList G
+  unfolding peel removalList
+  reached-removal start k h = peel-enough k edges [] (firstWaiting G) h (omega arith) (start-peeled .sound)
+  reached-removal (step {removed} {front} r) k h = reached-removal r (suc k) (omega (arith, length-append removed (front ∷ [])))
+
+  pub removal-peeled : Peeled (removalList G) []
+  unfolding removalList
+  removal-peeled = peel-end edges [] (firstWaiting G) (omega arith) start-peeled
+
+  -- ---- the removal list is all that ever waited, in its order
+
+  joining-peel : (k : ℕ) (removed waiting : List ℕ) → edges ≤ length removed + k → Sound G removed waiting → removed ++ waiting ++ joining G k removed waiting ≡ peel G k removed waiting
+  unfolding peel joining
+  joining-peel zero removed [] h s = simp append-nil
+  joining-peel zero removed (front ∷ waiting) h s = absurd (omega (arith, sound-room G removed (front ∷ waiting) s))
+  joining-peel (suc k) removed [] h s = simp append-nil
+  joining-peel (suc k) removed (front ∷ waiting) h s =
+      let back = follow-all-back G (removed ++ front ∷ []) front arity waiting in
+      let new : drop (length waiting) (followAll G (removed ++ front ∷ []) front arity waiting) ≡ back .0 = ap (drop (length waiting)) (back .1) ∙ drop-append-seam waiting (back .0) in
+      let rest = joining G k (removed ++ front ∷ []) (followAll G (removed ++ front ∷ []) front arity waiting) in
+      rw new (regroup (back .0) rest ∙ ap (λ l. removed ++ front ∷ [] ++ l ++ rest) (sym (back .1)) ∙ joining-peel k _ _ (fuel-step removed front k h) (follow-all-sound G _ front arity waiting (step-sound s)))
+    where
+      regroup : (new rest : List ℕ) → removed ++ front ∷ waiting ++ (new ++ rest) ≡ removed ++ front ∷ [] ++ (waiting ++ new) ++ rest
+      regroup new rest = simp append-assoc
+
+  pub ever-waiting-removed : everWaiting G ≡ removalList G
+  unfolding everWaiting removalList
+  ever-waiting-removed = joining-peel edges [] (firstWaiting G) (omega arith) (start-peeled .sound)
+
+  -- the edges left over are those that the removal list lacks
+  pub left-and-removed : numberLeft G + length (removalList G) ≡ edges
+  unfolding numberLeft leftOver unremoved
+  left-and-removed =
+      let s = removal-peeled .sound in
+      let l = removalList G in
+      let o : sum edges (λ e. occurrences e l) ≡ length l = occurrences-length edges l (λ e m. s .isEdge e (omega arith)) in
+      let t : sum edges (λ e. bit (eqb (occurrences e l) 0) + occurrences e l) ≡ sum edges (λ e. 1) = sum-equal edges _ _ (λ e m. absent-or-once (occurrences e l) (omega (arith, s .once e))) in
+      omega (arith, sum-add edges (λ e. bit (eqb (occurrences e l) 0)) (λ e. occurrences e l), sum-constant edges 1)
+    where
+      absent-or-once : (k : ℕ) → k ≤ 1 → bit (eqb k 0) + k ≡ 1
+      absent-or-once zero h = refl
+      absent-or-once (suc zero) h = refl
+      absent-or-once (suc (suc k)) h = absurd (omega arith)
