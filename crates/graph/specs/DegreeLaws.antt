@@ -9,13 +9,13 @@ use lib.Dec.{eqb}
 use borrow.Author.Tests.{eqb-true, eq-eqb, ne-eqb}
 use Rattle.counting.specs.TestLaws.{and-both, and-left, and-right}
 use Rattle.counting.specs.Below.{sum, bit, count, any}
-use Rattle.counting.specs.BelowLaws.{sum-but}
+use Rattle.counting.specs.BelowLaws.{sum-equal, sum-but}
 use Rattle.counting.specs.CountLaws.{bit-self, bit-other, count-mono, count-has, count-one}
 use Rattle.counting.specs.SearchLaws.{any-has, any-some}
 use Rattle.counting.specs.Lists.{occurrences}
 use Rattle.counting.specs.OccurrenceLaws.{occurrences-back}
 use Rattle.graph.specs.Graph.{Graph, names, degreeIn, size}
-use Rattle.graph.specs.Peeling.{unremoved, degree}
+use Rattle.graph.specs.Peeling.{unremoved}
 
 -- ---- removed or not
 
@@ -30,6 +30,22 @@ absent-unremoved removed e i = eq-eqb _ _ i
 -- what is unremoved after one more removal was so before
 pub unremoved-before : (removed : List ℕ) (front e : ℕ) → unremoved (removed ++ front ∷ []) e ≡ true → unremoved removed e ≡ true
 unremoved-before removed front e t = absent-unremoved removed e (omega (arith, unremoved-absent (removed ++ front ∷ []) e t, occurrences-back e front removed))
+
+-- R is S and edge e besides
+pub record OneMore (S R : ℕ → Bool) (e : ℕ) : Type 0 where
+  pub without : S e ≡ false
+  pub within : R e ≡ true
+  pub same : (f : ℕ) → f ≢ e → S f ≡ R f
+
+-- before the removal of an edge it was one more
+pub removed-one-more : (removed : List ℕ) (front : ℕ) → occurrences front removed ≡ 0 → OneMore (unremoved (removed ++ front ∷ [])) (unremoved removed) front
+unfolding unremoved
+removed-one-more removed front o =
+    record {
+      without = ne-eqb (occurrences front (removed ++ front ∷ [])) 0 (λ i. omega (arith, i, occurrences-back front front removed, bit-self front));
+      within = eq-eqb _ _ o;
+      same = λ e d. let z : occurrences e (removed ++ front ∷ []) ≡ occurrences e removed = omega (arith, occurrences-back e front removed, bit-other e front d) in rw z;
+    }
 
 module _ (G : Graph) where
   open Graph G using (edges, arity, vertexOf)
@@ -61,24 +77,21 @@ module _ (G : Graph) where
   unfolding degreeIn
   degree-one S x e f d l m s s′ t t′ = count-one edges (λ i. S i && names G i x) d e f l m (and-both s t) (and-both s′ t′)
 
-  -- ---- one edge more removed
+  -- the degree depends on the edges alone
+  pub degree-equal : (S R : ℕ → Bool) (x : ℕ) → ((e : ℕ) → e < edges → S e ≡ R e) → degreeIn G S x ≡ degreeIn G R x
+  unfolding degreeIn
+  degree-equal S R x h = sum-equal edges _ _ (λ e l. ap (λ b. bit (b && names G e x)) (h e l))
 
-  module _ (removed : List ℕ) (front : ℕ) where
-    pub unremoved-other : (e : ℕ) → e ≢ front → unremoved (removed ++ front ∷ []) e ≡ unremoved removed e
-    unfolding unremoved
-    unremoved-other e d = let z : occurrences e (removed ++ front ∷ []) ≡ occurrences e removed = omega (arith, occurrences-back e front removed, bit-other e front d) in rw z
+  -- ---- one edge more in the set
 
-    pub unremoved-front : unremoved (removed ++ front ∷ []) front ≡ false
-    unfolding unremoved
-    unremoved-front = ne-eqb (occurrences front (removed ++ front ∷ [])) 0 (λ i. omega (arith, i, occurrences-back front front removed, bit-self front))
+  module _ {S R : ℕ → Bool} {e : ℕ} (more : OneMore S R e) (l : e < edges) where
+    -- any weight of the edges on a vertex grows by what the edge brings
+    pub weighed-more : (weight : ℕ → ℕ → ℕ) → ((f : ℕ) → weight f 0 ≡ 0) → (x : ℕ)
+        → sum edges (λ f. weight f (bit (S f && names G f x))) + weight e (bit (names G e x)) ≡ sum edges (λ f. weight f (bit (R f && names G f x)))
+    weighed-more weight none x =
+        let a = sum-but edges (λ f. weight f (bit (S f && names G f x))) (λ f. weight f (bit (R f && names G f x))) e l (λ f m d. ap (λ b. weight f (bit (b && names G f x))) (more .same f d)) in
+        omega (arith, a, ap (λ b. weight e (bit (b && names G e x))) (more .without), none e, ap (λ b. weight e (bit (b && names G e x))) (more .within))
 
-    -- any weight of the edges on a vertex falls by what the removed one brings
-    pub weighed-less : (weight : ℕ → ℕ → ℕ) → ((e : ℕ) → weight e 0 ≡ 0) → (x : ℕ) → front < edges → occurrences front removed ≡ 0
-        → sum edges (λ e. weight e (bit (unremoved (removed ++ front ∷ []) e && names G e x))) + weight front (bit (names G front x)) ≡ sum edges (λ e. weight e (bit (unremoved removed e && names G e x)))
-    weighed-less weight none x l o =
-        let a = sum-but edges (λ e. weight e (bit (unremoved (removed ++ front ∷ []) e && names G e x))) (λ e. weight e (bit (unremoved removed e && names G e x))) front l (λ e m d. ap (λ b. weight e (bit (b && names G e x))) (unremoved-other e d)) in
-        omega (arith, a, ap (λ b. weight front (bit (b && names G front x))) unremoved-front, none front, ap (λ b. weight front (bit (b && names G front x))) (absent-unremoved removed front o))
-
-    pub degree-less : (x : ℕ) → front < edges → occurrences front removed ≡ 0 → degree G (removed ++ front ∷ []) x + bit (names G front x) ≡ degree G removed x
+    pub degree-more : (x : ℕ) → degreeIn G S x + bit (names G e x) ≡ degreeIn G R x
     unfolding degreeIn
-    degree-less = weighed-less (λ e b. b) (λ e. refl)
+    degree-more = weighed-more (λ f b. b) (λ f. refl)

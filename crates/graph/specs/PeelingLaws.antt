@@ -19,7 +19,7 @@ use Rattle.counting.specs.OccurrenceLaws.{occurrences-append, occurrences-back,
 use Rattle.graph.specs.Graph.{Graph, names, size}
 use Rattle.graph.specs.Peeling.{unremoved, degree, firstWaiting, followAll, peel, removalList, leftOver, numberLeft}
 use Rattle.graph.specs.Run.{Reached, start, step, joining, everWaiting}
-use Rattle.graph.specs.DegreeLaws.{unremoved-before, names-at, names-some, degree-mono, degree-less}
+use Rattle.graph.specs.DegreeLaws.{unremoved-before, names-at, names-some, degree-mono, removed-one-more, degree-more}
 use Rattle.graph.specs.QueueLaws.{Sound, Complete, sound-room, follow-all-sound, follow-all-grows, follow-all-in, follow-all-back}
 
 module _ (G : Graph) where
@@ -83,7 +83,7 @@ module _ (G : Graph) where
             let w = names-some G front (vertexOf e j) t in
             follow-all-in G (removed ++ front ∷ []) front arity waiting (w .0) e (w .1) (rw (w .2) d) (record { isEdge = l; absent = o; named = names-at G e j _ m (sym (w .2)) })
         go false t =
-            let same : degree G removed (vertexOf e j) ≡ 1 = omega (arith, degree-less G removed front (vertexOf e j) (front-edge (p .sound)) (front-absent (p .sound)), ap bit t, d) in
+            let same : degree G removed (vertexOf e j) ≡ 1 = omega (arith, degree-more G (removed-one-more removed front (front-absent (p .sound))) (front-edge (p .sound)) (vertexOf e j), ap bit t, d) in
             omega (arith, p .complete e j l m (omega (arith, o, occurrences-back e front removed)) same, follow-all-grows G (removed ++ front ∷ []) front arity waiting e, o, occurrences-back e front removed)
 
     pub step-peeled : Peeled removed (front ∷ waiting) → Peeled (removed ++ front ∷ []) (followAll G (removed ++ front ∷ []) front arity waiting)

@@ -1,0 +1,5 @@
+pub mod Arrays
+pub mod HoldsLaws
+pub mod Linking
+pub mod LinkingSteps
+pub mod TallyLaws
