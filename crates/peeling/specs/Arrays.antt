@@ -41,10 +41,10 @@ pub record Vertices (r e : ℕ) (edges : List ℕ) (w : ℕ) : Type 0 where
 
 -- ---- per vertex: the degree, and the sum of the indices of the edges on it
 
--- there is room for m vertices
+-- there is an entry for each of m vertices
 pub record Wide (m : ℕ) (degrees sums : List ℕ) : Type 0 where
-  pub forDegrees : m ≤ length degrees
-  pub forSums : m ≤ length sums
+  pub forDegrees : length degrees ≡ m
+  pub forSums : length sums ≡ m
 
 -- the sum of the indices of the edges of the set S that name vertex x
 unfoldable pub indexSum : Graph → (ℕ → Bool) → ℕ → ℕ

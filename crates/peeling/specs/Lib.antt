@@ -3,3 +3,5 @@ pub mod HoldsLaws
 pub mod Linking
 pub mod LinkingSteps
 pub mod TallyLaws
+pub mod Queue
+pub mod QueueSteps

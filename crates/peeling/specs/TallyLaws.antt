@@ -9,13 +9,15 @@ use native.Mathlib.Omega.{arith}
 use lib.Dec.{eqb, ltb}
 use lib.ListN.{length, getD}
 use borrow.Author.Tests.{eqb-true, ltb-true, lt-ltb, le-ltb}
-use Rattle.counting.specs.TestLaws.{lt?}
+use Rattle.counting.specs.TestLaws.{lt?, and-both}
 use Rattle.counting.specs.Below.{sum, bit}
 use Rattle.counting.specs.BelowLaws.{sum-mono, sum-zero, sum-equal, sum-constant}
-use Rattle.counting.specs.CountLaws.{bit-most, count-most}
+use Rattle.counting.specs.CountLaws.{bit-most, count-most, count-place}
 use Rattle.counting.specs.SearchLaws.{count-any}
 use Rattle.graph.specs.Graph.{Graph, Proper, names, degreeIn}
-use Rattle.graph.specs.DegreeLaws.{OneMore, weighed-more, degree-more, degree-equal}
+use Rattle.graph.specs.Peeling.{unremoved, degree, oneLeft}
+use Rattle.graph.specs.DegreeLaws.{OneMore, absent-unremoved, weighed-more, degree-more, degree-equal}
+use Rattle.graph.specs.QueueLaws.{one-left}
 use Rattle.peeling.specs.Arrays.{twoBytes, vertexAt, graphIn, Held, Vertices, Wide, Holds, indexSum, Tallied}
 use Rattle.peeling.specs.Linking.{fourBytes, times, Added, Room, Enough}
 
@@ -93,8 +95,8 @@ module _ {n r m : ℕ} {edges : List ℕ} (held : Held n r m edges) {S R : ℕ �
     tallied-room t =
         record {
           edge = omega (arith, held .fewEdges);
-          inDegrees = vertices-in (length D) (wide .forDegrees);
-          inSums = vertices-in (length C) (wide .forSums);
+          inDegrees = vertices-in (length D) (omega (arith, wide .forDegrees));
+          inSums = vertices-in (length C) (omega (arith, wide .forSums));
           degreeFits = λ j k. let x = vertexAt r edges e j in omega (arith, t .ofDegrees x (held .proper .inside e j l k), degree-is x, count-most n (λ f. R f && names G f x), held .fewEdges);
           sumFits = λ j k. let x = vertexAt r edges e j in omega (arith, t .ofSums x (held .proper .inside e j l k), sum-is x, sum-fits x);
         }
@@ -109,8 +111,16 @@ module _ {n r m : ℕ} {edges : List ℕ} (held : Held n r m edges) {S R : ℕ �
     tallied-enough t =
         record {
           edge = omega (arith, held .fewEdges);
-          inDegrees = vertices-in (length D) (wide .forDegrees);
-          inSums = vertices-in (length C) (wide .forSums);
+          inDegrees = vertices-in (length D) (omega (arith, wide .forDegrees));
+          inSums = vertices-in (length C) (omega (arith, wide .forSums));
           degreeLeft = λ j k. let x = vertexAt r edges e j in omega (arith, t .ofDegrees x (held .proper .inside e j l k), degree-is x);
           sumLeft = λ j k. let x = vertexAt r edges e j in omega (arith, t .ofSums x (held .proper .inside e j l k), sum-is x);
         }
+
+-- ---- at degree 1 the index sum is the one edge left
+
+pub index-one-left : (G : Graph) (removed : List ℕ) (x : ℕ) → degree G removed x ≡ 1 → indexSum G (unremoved removed) x ≡ oneLeft G removed x
+unfolding indexSum degreeIn
+index-one-left G removed x d =
+    let o = one-left G removed x d in
+    count-place (G .edges) (λ e. unremoved removed e && names G e x) (oneLeft G removed x) (o .isEdge) (and-both (absent-unremoved removed _ (o .absent)) (o .named)) (omega (arith, d))

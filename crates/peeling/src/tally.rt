@@ -2,21 +2,21 @@
 use crate::edges::vertex;
 ghost use mathlib.Core.Path.{_≡_};
 ghost use mathlib.Core.List.{[]};
-ghost use Prim.Native.Nat.{ℕ, _+_, _*_, _<_, _≤_};
+ghost use Prim.Native.Nat.{ℕ};
 ghost use lib.Dec.{eqb};
 ghost use lib.ListN.{length, getD};
 ghost use Rattle.counting.specs.Below.{lowest};
 ghost use Rattle.graph.specs.Peeling.{unremoved};
-ghost use Rattle.peeling.specs.Arrays.{Held, Wide, graphIn, vertexAt, Vertices, Holds, Tallied};
+ghost use Rattle.peeling.specs.Arrays.{Held, graphIn, vertexAt, Vertices, Holds, Tallied};
 ghost use Rattle.peeling.specs.Linking.{Room, Enough, Added};
 
-// No edge on any of the first m vertices.
-fn clear(m: usize, degrees: &mut [u16], sums: &mut [u32])
-    requires { ⌜ Wide m (now degrees) (now sums) ⌝ }
-    ensures { λ _. ⌜ Holds m (λ x. 0) (now (degrees .exit)) × Holds m (λ x. 0) (now (sums .exit)) ⌝ }
+// No edge on any vertex.
+fn clear(degrees: &mut [u16], sums: &mut [u32])
+    requires { ⌜ length (now sums) ≡ length (now degrees) ⌝ }
+    ensures { λ _. ⌜ Holds (length (now (degrees .entry))) (λ x. 0) (now (degrees .exit)) × Holds (length (now (degrees .entry))) (λ x. 0) (now (sums .exit)) ⌝ }
 {
     let mut x = 0;
-    while x < m {
+    while x < degrees.len() {
         degrees[x] = 0;
         sums[x] = 0;
         x += 1;
@@ -52,12 +52,12 @@ pub fn unlink(r: usize, e: usize, edges: &[u16], degrees: &mut [u16], sums: &mut
 }
 
 // Puts all n edges on their vertices.
-pub fn tally(n: usize, r: usize, m: usize, edges: &[u16], degrees: &mut [u16], sums: &mut [u32])
-    requires held { ⌜ Held n r m (now edges) ⌝ }
-    requires wide { ⌜ Wide m (now degrees) (now sums) ⌝ }
-    ensures { λ _. ⌜ Tallied (graphIn n r m (now (edges .entry))) (unremoved []) (now (degrees .exit)) (now (sums .exit)) ⌝ }
+pub fn tally(n: usize, r: usize, edges: &[u16], degrees: &mut [u16], sums: &mut [u32])
+    requires held { ⌜ Held n r (length (now degrees)) (now edges) ⌝ }
+    requires even { ⌜ length (now sums) ≡ length (now degrees) ⌝ }
+    ensures { λ _. ⌜ Tallied (graphIn n r (length (now (degrees .entry))) (now (edges .entry))) (unremoved []) (now (degrees .exit)) (now (sums .exit)) ⌝ }
 {
-    clear(m, degrees, sums);
+    clear(degrees, sums);
     let mut e = 0;
     while e < n {
         link(r, e, edges, degrees, sums);

@@ -1,4 +1,4 @@
--- `peeling::tally::clear` meets its contract. The invariant: the first x entries of both arrays are 0. The measure is what is left of m. Assumes nothing.
+-- `peeling::tally::clear` meets its contract. The invariant: the first x entries of both arrays are 0. The measure is what is left of the arrays. Assumes nothing.
 use mathlib.Core.Path.{_≡_, refl, _∙_}
 use Prim.Native.Nat.{ℕ, _-_, _≤_}
 use native.Mathlib.Omega.{arith}
@@ -10,10 +10,10 @@ use Rattle.peeling.proofs.tally.clear.Statement.{statement}
 use Rattle.peeling.proofs.tally.clear.Tie as tie
 
 abbrev Inv-loop : tie.InvT-loop
-Inv-loop m degrees₀ sums₀ x₀ degrees sums x = (x ≤ m) × (length degrees ≡ length degrees₀) × (length sums ≡ length sums₀) × Holds x (λ i. 0) degrees × Holds x (λ i. 0) sums
+Inv-loop degrees₀ sums₀ x₀ degrees sums x = (x ≤ length degrees₀) × (length degrees ≡ length degrees₀) × (length sums ≡ length sums₀) × Holds x (λ i. 0) degrees × Holds x (λ i. 0) sums
 
 abbrev μ-loop : tie.MeasureT-loop
-μ-loop m degrees₀ sums₀ x₀ degrees sums x = m - x
+μ-loop degrees₀ sums₀ x₀ degrees sums x = length degrees₀ - x
 
 loop-holds : tie.Need-loop-holds Inv-loop μ-loop
 loop-holds c = (omega arith, refl, refl, holds-none _ (c .args .degrees .now), holds-none _ (c .args .sums .now))
