@@ -7,3 +7,4 @@ pub mod Examples
 pub mod DegreeLaws
 pub mod QueueLaws
 pub mod PeelingLaws
+pub mod GroupLaws

@@ -98,13 +98,13 @@ module _ (G : Graph) where
 
   -- ---- the end
 
-  -- with a step for each edge that is not removed yet, none waits at the end
-  pub peel-end : (k : ℕ) (removed waiting : List ℕ) → edges ≤ length removed + k → Peeled removed waiting → Peeled (peel G k removed waiting) []
+  -- with a step for each edge that is not removed yet, the run comes to a moment at which none waits
+  peel-reached : (k : ℕ) {removed waiting : List ℕ} → Reached G removed waiting → edges ≤ length removed + k → Reached G (peel G k removed waiting) []
   unfolding peel
-  peel-end zero removed [] h p = p
-  peel-end zero removed (front ∷ waiting) h p = absurd (omega (arith, sound-room G removed (front ∷ waiting) (p .sound)))
-  peel-end (suc k) removed [] h p = p
-  peel-end (suc k) removed (front ∷ waiting) h p = peel-end k _ _ (fuel-step removed front k h) (step-peeled p)
+  peel-reached zero {waiting = []} r h = r
+  peel-reached zero {removed} {waiting = (front ∷ waiting)} r h = absurd (omega (arith, sound-room G removed (front ∷ waiting) (reached-peeled r .sound)))
+  peel-reached (suc k) {waiting = []} r h = r
+  peel-reached (suc k) {removed} {waiting = (front ∷ waiting)} r h = peel-reached k (step r) (fuel-step removed front k h)
 
   pub peel-none : (k : ℕ) (removed : List ℕ) → peel G k removed [] ≡ removed
   unfolding peel
@@ -126,9 +126,13 @@ module _ (G : Graph) where
   reached-removal start k h = peel-enough k edges [] (firstWaiting G) h (omega arith) (start-peeled .sound)
   reached-removal (step {removed} {front} r) k h = reached-removal r (suc k) (omega (arith, length-append removed (front ∷ [])))
 
-  pub removal-peeled : Peeled (removalList G) []
+  -- the end is a moment of the run: all of the removal list is removed, and none waits
+  pub removal-reached : Reached G (removalList G) []
   unfolding removalList
-  removal-peeled = peel-end edges [] (firstWaiting G) (omega arith) start-peeled
+  removal-reached = peel-reached edges start (omega arith)
+
+  pub removal-peeled : Peeled (removalList G) []
+  removal-peeled = reached-peeled removal-reached
 
   -- ---- the removal list is all that ever waited, in its order
 
