@@ -8,3 +8,8 @@ pub mod DegreeLaws
 pub mod QueueLaws
 pub mod PeelingLaws
 pub mod GroupLaws
+pub mod WithinLaws
+pub mod OrderLaws
+pub mod AssignmentLaws
+pub mod LandingLaws
+pub mod LineLaws
