@@ -1,5 +1,5 @@
 -- Tests: two numbers compared, and two truth values joined by "and" or "or". Assumes nothing.
-use mathlib.Core.Path.{_≡_, refl, sym}
+use mathlib.Core.Path.{_≡_, refl}
 use mathlib.Core.Logic.{_⊎_, inl, inr, _≢_}
 use mathlib.Core.Bool.{Bool, true, false, _&&_, _||_}
 use Prim.Native.Nat.{ℕ, _≤_, _<_}
@@ -27,11 +27,6 @@ clash t f = let z : _≡_ {A = ℕ} 0 1 = cc in omega arith
 pub never-true : (b : Bool) → (b ≡ true → ⊥) → b ≡ false
 never-true true h = absurd (h refl)
 never-true false h = refl
-
--- two tests that pass together are one
-pub both-or-neither : (a b : Bool) → (a ≡ true → b ≡ true) → (b ≡ true → a ≡ true) → a ≡ b
-both-or-neither true b h k = sym (h refl)
-both-or-neither false b h k = sym (never-true b (λ t. clash (k t) refl))
 
 pub and-left : (a b : Bool) → a && b ≡ true → a ≡ true
 and-left true b t = refl

@@ -49,13 +49,14 @@ module _ (G : Graph) where
       (λ (s : names G f x ≡ true). (f, omega (arith, bit-self f), s))
       (or-either ((assign G l) .visited x) (names G f x) t)
 
-  -- ---- one edge more
+  -- ---- one edge more, before the later ones
 
-  -- the vertex that gets a value with it, the first of the edge that the later edges leave unvisited
+  -- the vertex that gets a value with it: the first of its vertices that they leave unvisited
   abbrev pub newVertex : ℕ → List ℕ → ℕ
   newVertex e later = vertexOf e (firstUnvisited G (assign G later) e)
 
   module _ {e : ℕ} {later : List ℕ} (w : Leads G e later) where
+    -- there is one
     new-first : (firstUnvisited G (assign G later) e < arity) × (not ((assign G later) .visited (newVertex e later)) ≡ true)
     unfolding firstUnvisited
     new-first =
@@ -72,6 +73,7 @@ module _ (G : Graph) where
     unfolding assign assignEdge
     new-value = rw (eq-eqb (newVertex e later) (newVertex e later) refl)
 
+    -- it is assigned
     pub new-less : (assign G (e ∷ later)) .value (newVertex e later) < arity
     unfolding minusMod
     new-less = rw new-value (mod-lt _ (omega (arith, new-place)))
@@ -84,8 +86,9 @@ module _ (G : Graph) where
     pub visited-value : (x : ℕ) → (assign G later) .visited x ≡ true → (assign G (e ∷ later)) .value x ≡ (assign G later) .value x
     visited-value x t = other-value x (λ i. clash t (ap ((assign G later) .visited) i ∙ new-unvisited))
 
-  -- ---- the values
+  -- ---- the values after an ordered list
 
+  -- an unvisited vertex has the value that means unassigned
   pub unvisited-unassigned : {l : List ℕ} → Ordered G l → (x : ℕ) → (assign G l) .visited x ≡ false → (assign G l) .value x ≡ arity
   unfolding assign fresh assignEdge
   unvisited-unassigned none x t = refl
@@ -93,6 +96,7 @@ module _ (G : Graph) where
       let d : x ≢ newVertex e later = λ i. clash (or-second ((assign G later) .visited x) _ (names-at G e _ x (new-place w) (sym i))) t in
       other-value w x d ∙ unvisited-unassigned o x (or-neither _ (names G e x) t)
 
+  -- no value is above that one
   pub value-most : {l : List ℕ} → Ordered G l → (x : ℕ) → (assign G l) .value x ≤ arity
   unfolding assign fresh
   value-most none x = omega arith
@@ -102,7 +106,7 @@ module _ (G : Graph) where
       (λ (d : x ≢ newVertex e later). rw (other-value w x d) (value-most o x))
       (eq? x (newVertex e later))
 
-  -- so it is after the whole removal list, and after each end of it
+  -- so it is after the removal list, and on the way there, when its first k edges are still to come
 
   pub drop-unassigned : (k x : ℕ) → (assign G (drop k (removalList G))) .visited x ≡ false → (assign G (drop k (removalList G))) .value x ≡ arity
   drop-unassigned k = unvisited-unassigned (ordered-drop G k (removal-ordered G))

@@ -22,30 +22,29 @@ module _ (G : Graph) where
 
   -- ---- what is left over is a group
 
-  -- of an edge left over no vertex has degree 1, or it would be waiting
+  -- an edge left over has no vertex of degree 1, or it would be waiting
   pub left-group : 1 ≤ numberLeft G → Group G (leftOver G)
   unfolding numberLeft leftOver occurrences
   left-group h = record { notEmpty = h; namedTwice = twice }
     where
       twice : (e j : ℕ) → e < edges → j < arity → leftOver G e ≡ true → 2 ≤ degreeIn G (leftOver G) (vertexOf e j)
       twice e j l m t =
-          let some = degree-has G (leftOver G) (vertexOf e j) e l t (names-at G e j _ m refl) in
           ⊎-elim
           (λ (i : degreeIn G (leftOver G) (vertexOf e j) ≡ 1). absurd (omega (arith, removal-peeled G .complete e j l m (unremoved-absent _ e t) i)))
-          (λ (d : degreeIn G (leftOver G) (vertexOf e j) ≢ 1). omega (arith, some))
+          (λ (d : degreeIn G (leftOver G) (vertexOf e j) ≢ 1). omega (arith, degree-has G (leftOver G) (vertexOf e j) e l t (names-at G e j _ m refl)))
           (eq? (degreeIn G (leftOver G) (vertexOf e j)) 1)
 
   -- ---- and it holds every group
 
   module _ (S : ℕ → Bool) (g : Group G S) where
-    -- the front of the queue is in no group of which nothing is removed: it has a vertex of degree 1
+    -- while nothing of a group is removed, the front of the queue is none of it: the front has a vertex of degree 1
     front-outside : {removed : List ℕ} {front : ℕ} {waiting : List ℕ} → Sound G removed (front ∷ waiting) → ((e : ℕ) → e < edges → S e ≡ true → occurrences e removed ≡ 0) → front < edges → S front ≡ true → ⊥
     unfolding occurrences
     front-outside {removed} {front} s kept l t =
         let w = s .alone front (omega (arith, bit-self front)) in
         omega (arith, w .2, g .namedTwice front (w .0) l (w .1) t, degree-mono G S (unremoved removed) (vertexOf front (w .0)) (λ e m u. absent-unremoved removed e (kept e m u)))
 
-    -- so at no moment is anything of it removed
+    -- so at no moment of the run is anything of it removed
     reached-keeps : {removed waiting : List ℕ} → Reached G removed waiting → (e : ℕ) → e < edges → S e ≡ true → occurrences e removed ≡ 0
     unfolding occurrences
     reached-keeps start e l t = refl

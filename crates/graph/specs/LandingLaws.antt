@@ -35,23 +35,24 @@ landingAfter G l f = landing (G .arity) (assign G l .value) (G .vertexOf f)
 module _ (G : Graph) where
   open Graph G using (edges, arity, vertices, vertexOf)
 
-  -- ---- one edge more
+  -- ---- one edge more, before the later ones
 
   module _ {e : ℕ} {later : List ℕ} (w : Leads G e later) where
+    -- the later edges land on visited vertices
     landing-visited : (f : ℕ) → 1 ≤ occurrences f later → (assign G later) .visited (landingAfter G later f) ≡ true
     unfolding landing
     landing-visited f m = names-visited G later f _ m (names-at G f _ _ (mod-lt _ (omega (arith, w .isPlace))) refl)
 
-    -- the later edges land where they did
+    -- with one edge more they land where they did
     landing-later : (f : ℕ) → 1 ≤ occurrences f later → landingAfter G (e ∷ later) f ≡ landingAfter G later f
     unfolding landing
     landing-later f m = ap (λ k. vertexOf f (k % arity)) (sum-equal arity _ _ (λ j k. visited-value G w (vertexOf f j) (names-visited G later f _ m (names-at G f j _ k refl))))
 
-    -- which is not on the new vertex
+    -- so not on the vertex that gets its value with that edge
     landing-apart : (f : ℕ) → 1 ≤ occurrences f later → landingAfter G (e ∷ later) f ≢ newVertex G e later
     landing-apart f m i = clash (landing-visited f m) (ap ((assign G later) .visited) (sym (landing-later f m) ∙ i) ∙ new-unvisited G w)
 
-    -- on that one lands the edge itself
+    -- there lands the edge itself: the values of its other vertices count as before, mod the arity, and its own makes up the rest
     landing-new : Proper G → Ordered G later → landingAfter G (e ∷ later) e ≡ newVertex G e later
     unfolding landing visitedSum
     landing-new ok o = ap (vertexOf e) (sum-mod-but arity arity given known j0 (new-place G w) (rw (new-unvisited G w)) agree ∙ ap (λ v. (sum arity known + v) % arity) (new-value G w) ∙ minus-mod-sum arity j0 (sum arity known) (new-place G w))
@@ -72,9 +73,10 @@ module _ (G : Graph) where
             old true t = refl
             old false t = rw (unvisited-unassigned G o (vertexOf e j) t, mod-self, zero-mod)
 
-  -- ---- all edges of the list
+  -- ---- all edges of an ordered list
 
   module _ (ok : Proper G) where
+    -- each lands on an assigned vertex
     list-assigned : {l : List ℕ} → Ordered G l → (f : ℕ) → 1 ≤ occurrences f l → assigned arity (assign G l .value (landingAfter G l f)) ≡ true
     unfolding occurrences
     list-assigned none f m = absurd (omega arith)
@@ -84,6 +86,7 @@ module _ (G : Graph) where
         (λ (m : 1 ≤ occurrences f later). rw (landing-later w f m, visited-value G w _ (landing-visited w f m)) (list-assigned o f m))
         (occurrences-front f e later m)
 
+    -- no two on the same
     list-own : {l : List ℕ} → Ordered G l → (f g : ℕ) → 1 ≤ occurrences f l → 1 ≤ occurrences g l → landingAfter G l f ≡ landingAfter G l g → f ≡ g
     unfolding occurrences
     list-own none f g m n i = absurd (omega arith)
@@ -97,6 +100,7 @@ module _ (G : Graph) where
         (occurrences-front g e later n))
         (occurrences-front f e later m)
 
+    -- each assigned vertex is one on which an edge lands
     list-landing : {l : List ℕ} → Ordered G l → (x : ℕ) → assigned arity (assign G l .value x) ≡ true → (f : ℕ) × (1 ≤ occurrences f l) × (landingAfter G l f ≡ x)
     unfolding assign fresh occurrences
     list-landing none x t = absurd (clash t (unassigned-not arity))
@@ -106,6 +110,7 @@ module _ (G : Graph) where
         (λ (d : x ≢ newVertex G e later). let v = list-landing o x (rw (other-value G w x d) at t) in (v .0, omega arith, landing-later w (v .0) (v .1) ∙ v .2))
         (eq? x (newVertex G e later))
 
+    -- as many are assigned as the list has edges
     list-number : {l : List ℕ} → Ordered G l → assignedBelow arity (assign G l .value) vertices ≡ length l
     unfolding assign fresh assignedBelow
     list-number none = sum-zero vertices _ (λ x l. ap bit (unassigned-not arity))
@@ -124,7 +129,7 @@ module _ (G : Graph) where
     unfolding landingVertex values
     assigned-landing x t = let w = list-landing (removal-ordered G) x t in (w .0, removal-edges G (w .0) (w .1), w .2)
 
-    -- where nothing is left over, every edge is on the removal list
+    -- where nothing is left over, all edges are on the removal list
     module _ (nothing : numberLeft G ≡ 0) where
       pub landing-assigned : (e : ℕ) → e < edges → assigned arity (values G (landingVertex G e)) ≡ true
       unfolding landingVertex values

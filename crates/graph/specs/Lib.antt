@@ -13,3 +13,4 @@ pub mod OrderLaws
 pub mod AssignmentLaws
 pub mod LandingLaws
 pub mod LineLaws
+pub mod Theorems

@@ -109,7 +109,7 @@ module _ (G : Graph) where
   peel-reached : (k : ℕ) {removed waiting : List ℕ} → Reached G removed waiting → edges ≤ length removed + k → Reached G (peel G k removed waiting) []
   unfolding peel
   peel-reached zero {waiting = []} r h = r
-  peel-reached zero {removed} {waiting = (front ∷ waiting)} r h = absurd (omega (arith, reached-room r))
+  peel-reached zero {waiting = (front ∷ waiting)} r h = absurd (omega (arith, reached-room r))
   peel-reached (suc k) {waiting = []} r h = r
   peel-reached (suc k) {removed} {waiting = (front ∷ waiting)} r h = peel-reached k (step r) (fuel-step removed front k h)
 
