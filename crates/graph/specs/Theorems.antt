@@ -65,7 +65,7 @@ module _ (G : Graph) where
   pub no-edge-enters-the-queue-twice : (e : ℕ) → occurrences e (everWaiting G) ≤ 1
   no-edge-enters-the-queue-twice = ever-waiting-once G
 
-  -- every edge is either left over or removed
+  -- the edges left over and those removed are together as many as there are
   pub left-over-and-removed-make-all : numberLeft G + length (removalList G) ≡ edges
   left-over-and-removed-make-all = left-and-removed G
 
