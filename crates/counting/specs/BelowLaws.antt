@@ -69,3 +69,20 @@ sum-mod r (suc k) f g h =
     let a : sum k f % r ≡ sum k g % r = sum-mod r k f g (λ i l. h i (omega arith)) in
     let b : f k % r ≡ g k % r = h k (omega arith) in
     cc (add-mod (sum k f) (f k) r, add-mod (sum k g) (g k) r)
+
+-- so do parts that agree mod r but at i, where g is 0, once f i is added
+pub sum-mod-but : (r k : ℕ) (f g : ℕ → ℕ) (i : ℕ) → i < k → g i ≡ 0 → ((j : ℕ) → j < k → j ≢ i → f j % r ≡ g j % r) → sum k f % r ≡ (sum k g + f i) % r
+unfolding sum
+sum-mod-but r zero f g i l z h = absurd (omega arith)
+sum-mod-but r (suc k) f g i l z h =
+    ⊎-elim
+    (λ (e : i ≡ k).
+    let a : sum k f % r ≡ sum k g % r = sum-mod r k f g (λ j m. h j (omega arith) (omega arith)) in
+    let b : sum k g + g k + f i ≡ sum k g + f k = omega (arith, ap f e, ap g e) in
+    cc (add-mod (sum k f) (f k) r, add-mod (sum k g) (f k) r))
+    (λ (ne : i ≢ k).
+    let a : sum k f % r ≡ (sum k g + f i) % r = sum-mod-but r k f g i (omega arith) z (λ j m. h j (omega arith)) in
+    let b : f k % r ≡ g k % r = h k (omega arith) (omega arith) in
+    let c : sum k g + g k + f i ≡ sum k g + f i + g k = omega arith in
+    cc (add-mod (sum k f) (f k) r, add-mod (sum k g + f i) (g k) r))
+    (eq? i k)

@@ -24,6 +24,10 @@ lt? a b = go (ltb a b) refl
 pub clash : {b : Bool} → b ≡ true → b ≡ false → ⊥
 clash t f = let z : _≡_ {A = ℕ} 0 1 = cc in omega arith
 
+pub never-true : (b : Bool) → (b ≡ true → ⊥) → b ≡ false
+never-true true h = absurd (h refl)
+never-true false h = refl
+
 pub and-left : (a b : Bool) → a && b ≡ true → a ≡ true
 and-left true b t = refl
 and-left false b t = t

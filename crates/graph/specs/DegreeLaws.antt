@@ -1,14 +1,13 @@
 -- Laws of degrees: what a set of edges, and the removal of one, does to them. Assumes nothing.
-use mathlib.Core.Path.{_≡_, refl, sym, ap, _∙_}
+use mathlib.Core.Path.{_≡_, refl, ap}
 use mathlib.Core.Logic.{_≢_}
 use mathlib.Core.Bool.{Bool, true, false, _&&_}
 use mathlib.Core.List.{List, [], _∷_, _++_}
 use Prim.Native.Nat.{ℕ, _+_, _≤_, _<_}
 use native.Mathlib.Omega.{arith}
-use lib.Dec.{eqb}
 use borrow.Author.Tests.{eqb-true, eq-eqb, ne-eqb}
 use Rattle.counting.specs.TestLaws.{and-both, and-left, and-right}
-use Rattle.counting.specs.Below.{sum, bit, count, any}
+use Rattle.counting.specs.Below.{sum, bit}
 use Rattle.counting.specs.BelowLaws.{sum-equal, sum-but}
 use Rattle.counting.specs.CountLaws.{bit-self, bit-other, count-mono, count-has, count-one}
 use Rattle.counting.specs.SearchLaws.{any-has, any-some}

@@ -7,3 +7,10 @@ pub mod Examples
 pub mod DegreeLaws
 pub mod QueueLaws
 pub mod PeelingLaws
+pub mod GroupLaws
+pub mod WithinLaws
+pub mod OrderLaws
+pub mod AssignmentLaws
+pub mod LandingLaws
+pub mod LineLaws
+pub mod Theorems

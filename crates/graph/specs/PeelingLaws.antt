@@ -1,6 +1,6 @@
 -- The run of the peeling: what holds at its start, at each moment and at its end; more steps change nothing. Assumes nothing.
 use mathlib.Core.Path.{_≡_, refl, sym, ap, _∙_}
-use mathlib.Core.Logic.{⊎-elim}
+use mathlib.Core.Logic.{⊎-elim, _≢_}
 use mathlib.Core.Bool.{Bool, true, false}
 use mathlib.Core.List.{List, [], _∷_, _++_, append-assoc, append-nil}
 use Prim.Native.Nat.{ℕ, zero, suc, _+_, _≤_, _<_}
@@ -9,17 +9,17 @@ use lib.Dec.{eqb}
 use lib.ListN.{length, drop, length-append}
 use lib.Seq.{drop-append-seam}
 use borrow.Author.Tests.{eqb-true, eq-eqb}
-use Rattle.counting.specs.TestLaws.{lt?}
+use Rattle.counting.specs.TestLaws.{eq?, lt?}
 use Rattle.counting.specs.Below.{sum, bit, any}
 use Rattle.counting.specs.BelowLaws.{sum-equal, sum-add, sum-constant}
-use Rattle.counting.specs.CountLaws.{bit-true, bit-most, bit-self}
+use Rattle.counting.specs.CountLaws.{bit-true, bit-most, bit-self, count-has}
 use Rattle.counting.specs.SearchLaws.{any-has, any-some}
 use Rattle.counting.specs.Lists.{occurrences}
-use Rattle.counting.specs.OccurrenceLaws.{occurrences-append, occurrences-back, occurrences-length, those-past, those-once}
-use Rattle.graph.specs.Graph.{Graph, names, size}
+use Rattle.counting.specs.OccurrenceLaws.{occurrences-back, occurrences-length, those-past, those-once}
+use Rattle.graph.specs.Graph.{Graph, names}
 use Rattle.graph.specs.Peeling.{unremoved, degree, firstWaiting, followAll, peel, removalList, leftOver, numberLeft}
 use Rattle.graph.specs.Run.{Reached, start, step, joining, everWaiting}
-use Rattle.graph.specs.DegreeLaws.{unremoved-before, names-at, names-some, degree-mono, removed-one-more, degree-more}
+use Rattle.graph.specs.DegreeLaws.{absent-unremoved, unremoved-before, names-at, names-some, degree-mono, removed-one-more, degree-more}
 use Rattle.graph.specs.QueueLaws.{Sound, Complete, sound-room, follow-all-sound, follow-all-grows, follow-all-in, follow-all-back}
 
 module _ (G : Graph) where
@@ -96,15 +96,22 @@ module _ (G : Graph) where
   reached-peeled start = start-peeled
   reached-peeled (step r) = step-peeled (reached-peeled r)
 
+  -- so at each moment no edge is removed or waits twice, and removed and waiting together are at most as many as there are edges
+  pub reached-once : {removed waiting : List ℕ} → Reached G removed waiting → (e : ℕ) → occurrences e removed + occurrences e waiting ≤ 1
+  reached-once r = reached-peeled r .sound .once
+
+  pub reached-room : {removed waiting : List ℕ} → Reached G removed waiting → length removed + length waiting ≤ edges
+  reached-room {removed} {waiting} r = sound-room G removed waiting (reached-peeled r .sound)
+
   -- ---- the end
 
-  -- with a step for each edge that is not removed yet, none waits at the end
-  pub peel-end : (k : ℕ) (removed waiting : List ℕ) → edges ≤ length removed + k → Peeled removed waiting → Peeled (peel G k removed waiting) []
+  -- with a step for each edge that is not removed yet, the run comes to a moment at which none waits
+  peel-reached : (k : ℕ) {removed waiting : List ℕ} → Reached G removed waiting → edges ≤ length removed + k → Reached G (peel G k removed waiting) []
   unfolding peel
-  peel-end zero removed [] h p = p
-  peel-end zero removed (front ∷ waiting) h p = absurd (omega (arith, sound-room G removed (front ∷ waiting) (p .sound)))
-  peel-end (suc k) removed [] h p = p
-  peel-end (suc k) removed (front ∷ waiting) h p = peel-end k _ _ (fuel-step removed front k h) (step-peeled p)
+  peel-reached zero {waiting = []} r h = r
+  peel-reached zero {waiting = (front ∷ waiting)} r h = absurd (omega (arith, reached-room r))
+  peel-reached (suc k) {waiting = []} r h = r
+  peel-reached (suc k) {removed} {waiting = (front ∷ waiting)} r h = peel-reached k (step r) (fuel-step removed front k h)
 
   pub peel-none : (k : ℕ) (removed : List ℕ) → peel G k removed [] ≡ removed
   unfolding peel
@@ -126,9 +133,20 @@ module _ (G : Graph) where
   reached-removal start k h = peel-enough k edges [] (firstWaiting G) h (omega arith) (start-peeled .sound)
   reached-removal (step {removed} {front} r) k h = reached-removal r (suc k) (omega (arith, length-append removed (front ∷ [])))
 
-  pub removal-peeled : Peeled (removalList G) []
+  -- the end is a moment of the run: all of the removal list is removed, and none waits
+  pub removal-reached : Reached G (removalList G) []
   unfolding removalList
-  removal-peeled = peel-end edges [] (firstWaiting G) (omega arith) start-peeled
+  removal-reached = peel-reached edges start (omega arith)
+
+  pub removal-peeled : Peeled (removalList G) []
+  removal-peeled = reached-peeled removal-reached
+
+  -- no edge is removed twice, and only edges are
+  pub removal-once : (e : ℕ) → occurrences e (removalList G) ≤ 1
+  removal-once e = omega (arith, reached-once removal-reached e)
+
+  pub removal-edges : (e : ℕ) → 1 ≤ occurrences e (removalList G) → e < edges
+  removal-edges e m = removal-peeled .sound .isEdge e (omega arith)
 
   -- ---- the removal list is all that ever waited, in its order
 
@@ -150,17 +168,33 @@ module _ (G : Graph) where
   unfolding everWaiting removalList
   ever-waiting-removed = joining-peel edges [] (firstWaiting G) (omega arith) (start-peeled .sound)
 
+  -- no edge enters the queue twice in the whole run
+  pub ever-waiting-once : (e : ℕ) → occurrences e (everWaiting G) ≤ 1
+  ever-waiting-once e = rw ever-waiting-removed (removal-once e)
+
   -- the edges left over are those that the removal list lacks
   pub left-and-removed : numberLeft G + length (removalList G) ≡ edges
   unfolding numberLeft leftOver unremoved
   left-and-removed =
-      let s = removal-peeled .sound in
       let l = removalList G in
-      let o : sum edges (λ e. occurrences e l) ≡ length l = occurrences-length edges l (λ e m. s .isEdge e (omega arith)) in
-      let t : sum edges (λ e. bit (eqb (occurrences e l) 0) + occurrences e l) ≡ sum edges (λ e. 1) = sum-equal edges _ _ (λ e m. absent-or-once (occurrences e l) (omega (arith, s .once e))) in
+      let o : sum edges (λ e. occurrences e l) ≡ length l = occurrences-length edges l removal-edges in
+      let t : sum edges (λ e. bit (eqb (occurrences e l) 0) + occurrences e l) ≡ sum edges (λ e. 1) = sum-equal edges _ _ (λ e m. absent-or-once (occurrences e l) (removal-once e)) in
       omega (arith, sum-add edges (λ e. bit (eqb (occurrences e l) 0)) (λ e. occurrences e l), sum-constant edges 1)
     where
       absent-or-once : (k : ℕ) → k ≤ 1 → bit (eqb k 0) + k ≡ 1
       absent-or-once zero h = refl
       absent-or-once (suc zero) h = refl
       absent-or-once (suc (suc k)) h = absurd (omega arith)
+
+  -- where none is left over, every edge is removed
+  module _ (none : numberLeft G ≡ 0) where
+    pub removal-length : length (removalList G) ≡ edges
+    removal-length = omega (arith, left-and-removed)
+
+    pub removed-all : (e : ℕ) → e < edges → 1 ≤ occurrences e (removalList G)
+    unfolding numberLeft leftOver
+    removed-all e l =
+        ⊎-elim
+        (λ (i : occurrences e (removalList G) ≡ 0). absurd (omega (arith, count-has edges (leftOver G) e l (absent-unremoved _ e i))))
+        (λ (d : occurrences e (removalList G) ≢ 0). omega arith)
+        (eq? (occurrences e (removalList G)) 0)

@@ -9,7 +9,7 @@ use lib.Dec.{eqb}
 use lib.ListN.{length, length-append}
 use borrow.Author.Tests.{eqb-true, eqb-false, eq-eqb}
 use Rattle.counting.specs.TestLaws.{eq?, and-both, and-left, and-right}
-use Rattle.counting.specs.Below.{bit, sum, count, lowest}
+use Rattle.counting.specs.Below.{bit}
 use Rattle.counting.specs.CountLaws.{bit-self, bit-other, count-some}
 use Rattle.counting.specs.SearchLaws.{lowest-some, lowest-one}
 use Rattle.counting.specs.Lists.{occurrences}
