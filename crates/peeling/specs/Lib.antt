@@ -5,3 +5,4 @@ pub mod LinkingSteps
 pub mod TallyLaws
 pub mod Queue
 pub mod QueueSteps
+pub mod Ranking

@@ -2,3 +2,4 @@
 mod edges; // edges.rt: the vertices of an edge
 mod tally; // tally.rt: degrees and index sums
 mod queue; // queue.rt: the first queue, and the peeling
+mod ranking; // ranking.rt: rank entries, and the order of the edges by line
