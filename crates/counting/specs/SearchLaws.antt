@@ -31,6 +31,11 @@ any-none k p h = go (any k p) refl
     go true t = let w = any-some k p t in absurd (clash (w .2) (h (w .0) (w .1)))
     go false t = t
 
+pub any-equal : (k : ℕ) (p q : ℕ → Bool) → ((i : ℕ) → i < k → p i ≡ q i) → any k p ≡ any k q
+unfolding any
+any-equal zero p q h = refl
+any-equal (suc k) p q h = rw (any-equal k p q (λ i l. h i (omega arith)), h k (omega arith))
+
 -- of a test that at most one number passes, the count says whether one does
 pub count-any : (k : ℕ) (p : ℕ → Bool) → ((i j : ℕ) → i < k → j < k → p i ≡ true → p j ≡ true → i ≡ j) → count k p ≡ bit (any k p)
 unfolding sum any

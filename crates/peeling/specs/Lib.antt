@@ -4,5 +4,7 @@ pub mod Linking
 pub mod LinkingSteps
 pub mod TallyLaws
 pub mod Queue
+pub mod FirstQueueSteps
 pub mod QueueSteps
+pub mod PeelSteps
 pub mod Ranking

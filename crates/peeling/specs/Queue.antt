@@ -1,10 +1,11 @@
 -- The state of the peeling as the arrays have it: removed edges and waiting edges in one array, and a mark for each edge that ever waited. Assumes nothing.
 use mathlib.Core.Path.{_≡_}
-use mathlib.Core.List.{List, _++_}
+use mathlib.Core.List.{List, [], _++_}
 use Prim.Native.Nat.{ℕ, _+_, _≤_}
 use lib.ListN.{length, getD, take, drop}
 use Rattle.counting.specs.Lists.{occurrences}
-use Rattle.graph.specs.Peeling.{unremoved}
+use Rattle.graph.specs.Graph.{Graph}
+use Rattle.graph.specs.Peeling.{unremoved, peel}
 use Rattle.graph.specs.QueueLaws.{Sound}
 use Rattle.peeling.specs.Arrays.{graphIn, Held, Wide, Holds, Tallied}
 
@@ -40,3 +41,9 @@ pub record Ready (n r m : ℕ) (edges degrees sums queued order removed waiting 
   pub sound : Sound (graphIn n r m edges) removed waiting
   pub tallied : Tallied (graphIn n r m edges) (unremoved removed) degrees sums
   pub marks : Marked n removed waiting queued
+
+-- what the peeling of G from a first queue leaves: so many edges are removed, and the arrays are those of the others
+pub record Peeled (G : Graph) (first degrees sums order : List ℕ) (removed : ℕ) : Type 0 where
+  pub most : removed ≤ G .edges
+  pub list : removedOf order removed ≡ peel G (G .edges) [] first
+  pub tallied : Tallied G (unremoved (removedOf order removed)) degrees sums

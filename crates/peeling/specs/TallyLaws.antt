@@ -21,6 +21,10 @@ use Rattle.graph.specs.QueueLaws.{one-left}
 use Rattle.peeling.specs.Arrays.{twoBytes, vertexAt, graphIn, Held, Vertices, Wide, Holds, indexSum, Tallied}
 use Rattle.peeling.specs.Linking.{fourBytes, times, Added, Room, Enough}
 
+-- the vertices of an edge can be read, and are places of an array that is wide enough
+pub held-vertices : {n r m : ℕ} {edges : List ℕ} → Held n r m edges → {e : ℕ} → e < n → (w : ℕ) → m ≤ w → Vertices r e edges w
+held-vertices {r = r} held {e} l w h = record { fits = omega (arith, held .long, mul-le-mul-right r l); below = λ j k. omega (arith, held .proper .inside e j l k) }
+
 -- ---- the set of the first k edges
 
 pub first-one-more : (k : ℕ) → OneMore (λ e. ltb e k) (λ e. ltb e (k + 1)) k
@@ -86,17 +90,14 @@ module _ {n r m : ℕ} {edges : List ℕ} (held : Held n r m edges) {S R : ℕ �
 
   -- ---- they fit
 
-  vertices-in : (w : ℕ) → m ≤ w → Vertices r e edges w
-  vertices-in w h = record { fits = omega (arith, held .long, mul-le-mul-right r l); below = λ j k. omega (arith, held .proper .inside e j l k) }
-
   module _ {D C : List ℕ} (wide : Wide m D C) where
     pub tallied-room : Tallied G S D C → Room r e edges D C
     unfolding degreeIn indexSum
     tallied-room t =
         record {
           edge = omega (arith, held .fewEdges);
-          inDegrees = vertices-in (length D) (omega (arith, wide .forDegrees));
-          inSums = vertices-in (length C) (omega (arith, wide .forSums));
+          inDegrees = held-vertices held l (length D) (omega (arith, wide .forDegrees));
+          inSums = held-vertices held l (length C) (omega (arith, wide .forSums));
           degreeFits = λ j k. let x = vertexAt r edges e j in omega (arith, t .ofDegrees x (held .proper .inside e j l k), degree-is x, count-most n (λ f. R f && names G f x), held .fewEdges);
           sumFits = λ j k. let x = vertexAt r edges e j in omega (arith, t .ofSums x (held .proper .inside e j l k), sum-is x, sum-fits x);
         }
@@ -111,8 +112,8 @@ module _ {n r m : ℕ} {edges : List ℕ} (held : Held n r m edges) {S R : ℕ �
     tallied-enough t =
         record {
           edge = omega (arith, held .fewEdges);
-          inDegrees = vertices-in (length D) (omega (arith, wide .forDegrees));
-          inSums = vertices-in (length C) (omega (arith, wide .forSums));
+          inDegrees = held-vertices held l (length D) (omega (arith, wide .forDegrees));
+          inSums = held-vertices held l (length C) (omega (arith, wide .forSums));
           degreeLeft = λ j k. let x = vertexAt r edges e j in omega (arith, t .ofDegrees x (held .proper .inside e j l k), degree-is x);
           sumLeft = λ j k. let x = vertexAt r edges e j in omega (arith, t .ofSums x (held .proper .inside e j l k), sum-is x);
         }

@@ -1,5 +1,6 @@
 // From the values to the rank entries and to the order of the edges by line.
-use crate::edges::{value_sum, vertex};
+use crate::edges::value_sum;
+use crate::edges::vertex;
 ghost use mathlib.Core.Path.{_≡_};
 ghost use Prim.Native.Nat.{ℕ, _*_, _<_};
 ghost use lib.ListN.{length, getD};
