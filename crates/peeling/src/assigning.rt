@@ -1,0 +1,47 @@
+// The values, from the end of the removal list to its start. Each edge that has its value is put back on its vertices, so that a vertex is visited where its degree is not 0.
+use crate::edges::{value_sum, vertex};
+use crate::tally::{first_of_degree, link};
+ghost use mathlib.Core.Path.{_≡_};
+ghost use Prim.Native.Nat.{_<_};
+ghost use lib.ListN.{length};
+ghost use Rattle.graph.specs.Peeling.{removalList, numberLeft};
+ghost use Rattle.graph.specs.Assignment.{values as valuesOf};
+ghost use Rattle.peeling.specs.Arrays.{oneByte, graphIn, Holds};
+ghost use Rattle.peeling.specs.Assigning.{Free, Given, AllRemoved};
+
+// No vertex is assigned.
+fn unassign(r: usize, values: &mut [u8])
+    requires { ⌜ r < oneByte ⌝ }
+    ensures { λ _. ⌜ Holds (length (now (values .entry))) (λ x. r) (now (values .exit)) ⌝ }
+{
+    let mut x = 0;
+    while x < values.len() {
+        values[x] = r as u8;
+        x += 1;
+    }
+}
+
+// Edge e gives its lowest unvisited vertex the value with which it lands there, and is put back.
+fn assign_edge(r: usize, e: usize, edges: &[u16], degrees: &mut [u16], sums: &mut [u32], values: &mut [u8])
+    requires { ⌜ Free r e (now edges) (now degrees) (now sums) (now values) ⌝ }
+    ensures { λ _. ⌜ Given r e (now (edges .entry)) (now (degrees .entry)) (now (sums .entry)) (now (values .entry)) (now (degrees .exit)) (now (sums .exit)) (now (values .exit)) ⌝ }
+{
+    let j = first_of_degree(0, r, e, edges, degrees);
+    let s = value_sum(r, e, edges, values);
+    let x = vertex(r, e, j, edges);
+    values[x] = ((j + (r - s % r)) % r) as u8;
+    link(r, e, edges, degrees, sums);
+}
+
+// The values of all vertices, where all edges are removed and stand in order, first removed first.
+pub fn assign(r: usize, edges: &[u16], order: &[u16], degrees: &mut [u16], sums: &mut [u32], values: &mut [u8])
+    requires { ⌜ AllRemoved (length (now order)) r (length (now values)) (now edges) (now order) (now degrees) (now sums) ⌝ }
+    ensures { λ _. ⌜ Holds (length (now (values .entry))) (valuesOf (graphIn (length (now (order .entry))) r (length (now (values .entry))) (now (edges .entry)))) (now (values .exit)) ⌝ }
+{
+    unassign(r, values);
+    let mut k = order.len();
+    while 0 < k {
+        k -= 1;
+        assign_edge(r, order[k] as usize, edges, degrees, sums, values);
+    }
+}
