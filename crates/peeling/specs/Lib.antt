@@ -6,3 +6,4 @@ pub mod TallyLaws
 pub mod Queue
 pub mod QueueSteps
 pub mod Ranking
+pub mod RankingSteps
