@@ -8,3 +8,4 @@ pub mod FirstQueueSteps
 pub mod QueueSteps
 pub mod PeelSteps
 pub mod Ranking
+pub mod RankingSteps

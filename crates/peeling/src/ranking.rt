@@ -6,7 +6,7 @@ ghost use Prim.Native.Nat.{ℕ, _*_, _<_};
 ghost use lib.ListN.{length, getD};
 ghost use Rattle.graph.specs.Assignment.{assignedBelow, blockSize};
 ghost use Rattle.peeling.specs.Arrays.{twoBytes, Holds};
-ghost use Rattle.peeling.specs.Ranking.{lineIn, Lined, Ordered};
+ghost use Rattle.peeling.specs.Ranking.{Lined, Ordered};
 
 // Where the blocks of vertices are this long, each has a rank entry.
 const BLOCK: usize = 64;
