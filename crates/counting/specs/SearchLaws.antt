@@ -81,6 +81,11 @@ lowest-only {k} {p} {i} h =
     (λ (l : lowest k p ≤ i). ⊎-elim (λ (m : lowest k p < i). absurd (clash (w .passes (omega (arith, h .most))) (h .noneBefore (lowest k p) m))) (λ (m : i ≤ lowest k p). omega arith) (lt? (lowest k p) i))
     (lt? i (lowest k p))
 
+pub lowest-equal : (k : ℕ) (p q : ℕ → Bool) → ((i : ℕ) → i < k → p i ≡ q i) → lowest k p ≡ lowest k q
+lowest-equal k p q h =
+    let w = lowest-is k p in
+    lowest-only (record { noneBefore = λ j l. sym (h j (omega (arith, w .most))) ∙ w .noneBefore j l; most = w .most; passes = λ l. sym (h _ l) ∙ w .passes l })
+
 pub lowest-below : (k : ℕ) (p : ℕ → Bool) (i : ℕ) → i < k → p i ≡ true → lowest k p ≤ i
 lowest-below k p i l t = ⊎-elim (λ (m : i < lowest k p). absurd (clash t (lowest-is k p .noneBefore i m))) (λ (m : lowest k p ≤ i). m) (lt? i (lowest k p))
 

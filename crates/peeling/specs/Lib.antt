@@ -7,5 +7,7 @@ pub mod Queue
 pub mod FirstQueueSteps
 pub mod QueueSteps
 pub mod PeelSteps
+pub mod Assigning
+pub mod AssigningSteps
 pub mod Ranking
 pub mod RankingSteps

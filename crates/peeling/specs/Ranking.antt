@@ -21,5 +21,5 @@ pub record Lined (n r : ℕ) (edges values below : List ℕ) : Type 0 where
   pub apart : (e f : ℕ) → e < n → f < n → lineIn r edges values below e ≡ lineIn r edges values below f → e ≡ f
 
 -- each of the first k edges stands in the place of its line
-abbrev pub Ordered : ℕ → ℕ → List ℕ → List ℕ → List ℕ → List ℕ → Type 0
-Ordered k r edges values below keys = (e : ℕ) → e < k → getD keys (lineIn r edges values below e) 0 ≡ e
+abbrev pub Keyed : ℕ → ℕ → List ℕ → List ℕ → List ℕ → List ℕ → Type 0
+Keyed k r edges values below keys = (e : ℕ) → e < k → getD keys (lineIn r edges values below e) 0 ≡ e

@@ -14,7 +14,7 @@ use Rattle.counting.specs.Below.{sum}
 use Rattle.counting.specs.CountLaws.{count-most}
 use Rattle.graph.specs.Assignment.{assigned, landing, assignedBelow}
 use Rattle.peeling.specs.Arrays.{vertexAt}
-use Rattle.peeling.specs.Ranking.{lineIn, Lined, Ordered}
+use Rattle.peeling.specs.Ranking.{lineIn, Lined, Keyed}
 
 -- ---- one vertex more is looked at
 
@@ -36,13 +36,13 @@ module _ (r : ℕ) (value : ℕ → ℕ) (y : ℕ) where
 pub record KeyTurn (e r x : ℕ) (edges values below keys : List ℕ) : Type 0 where
   pub vertex : x < length below
   pub place : getD below x 0 < length keys
-  pub ordered : Ordered (e + 1) r edges values below (set keys (getD below x 0) e)
+  pub ordered : Keyed (e + 1) r edges values below (set keys (getD below x 0) e)
 
 pub key-turn : {n r : ℕ} {edges values below keys : List ℕ} {e : ℕ}
     → Lined n r edges values below
     → e < n
     → length keys ≡ n
-    → Ordered e r edges values below keys
+    → Keyed e r edges values below keys
     → {s x : ℕ}
     → s ≡ sum r (λ j. getD values (vertexAt r edges e j) 0)
     → x ≡ vertexAt r edges e (s % r)

@@ -2,4 +2,5 @@
 mod edges; // edges.rt: the vertices of an edge
 mod tally; // tally.rt: degrees and index sums
 mod queue; // queue.rt: the first queue, and the peeling
+mod assigning; // assigning.rt: the values
 mod ranking; // ranking.rt: rank entries, and the order of the edges by line

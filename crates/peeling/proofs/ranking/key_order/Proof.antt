@@ -5,13 +5,13 @@ use native.Mathlib.Nat.{mod-lt}
 use native.Mathlib.Omega.{arith}
 use lib.ListN.{length, length-set}
 use Rattle.peeling.specs.Arrays.{Vertices}
-use Rattle.peeling.specs.Ranking.{Ordered}
+use Rattle.peeling.specs.Ranking.{Keyed}
 use Rattle.peeling.specs.RankingSteps.{KeyTurn, key-turn}
 use Rattle.peeling.proofs.ranking.key_order.Statement.{statement}
 use Rattle.peeling.proofs.ranking.key_order.Tie as tie
 
 abbrev Inv-loop : tie.InvT-loop
-Inv-loop r edges values below keys₀ e₀ keys e = (e ≤ length keys₀) × (length keys ≡ length keys₀) × Ordered e r edges values below keys
+Inv-loop r edges values below keys₀ e₀ keys e = (e ≤ length keys₀) × (length keys ≡ length keys₀) × Keyed e r edges values below keys
 
 abbrev μ-loop : tie.MeasureT-loop
 μ-loop r edges values below keys₀ e₀ keys e = length keys₀ - e
