@@ -30,9 +30,10 @@ pub record Given (r e : ℕ) (edges degrees sums values degrees′ sums′ value
   pub given : values′ ≡ set values (vertexAt r edges e (freeOf r e edges degrees)) (givenBy r e edges values (freeOf r e edges degrees))
 
 -- after a peeling that left nothing over
-pub record AllRemoved (n r m : ℕ) (edges order degrees sums : List ℕ) : Type 0 where
+pub record AllRemoved (n r m : ℕ) (edges order degrees sums values : List ℕ) : Type 0 where
   pub held : Held n r m edges
   pub wide : Wide m degrees sums
+  pub forValues : length values ≡ m
   pub nothing : numberLeft (graphIn n r m edges) ≡ 0
   pub list : order ≡ removalList (graphIn n r m edges)
   pub tallied : Tallied (graphIn n r m edges) (unremoved order) degrees sums

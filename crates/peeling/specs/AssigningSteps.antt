@@ -34,9 +34,9 @@ pub record Back (n r m : ℕ) (edges degrees sums values : List ℕ) (k : ℕ) :
   pub tallied : Tallied (graphIn n r m edges) (unremoved (take k (removalList (graphIn n r m edges)))) degrees sums
   pub assigned : Holds m ((assign (graphIn n r m edges) (drop k (removalList (graphIn n r m edges)))) .value) values
 
-pub back-none : {n r m : ℕ} {edges order D C W : List ℕ} → AllRemoved n r m edges order D C → length W ≡ m → Holds m (λ x. r) W → Back n r m edges D C W (length order)
+pub back-none : {n r m : ℕ} {edges order D C W₀ : List ℕ} → AllRemoved n r m edges order D C W₀ → (W : List ℕ) → length W ≡ m → Holds m (λ x. r) W → Back n r m edges D C W (length order)
 unfolding assign fresh
-back-none {n} {r} {m} {edges} {order} a w h =
+back-none {n} {r} {m} {edges} {order} a W w h =
     let L = removalList (graphIn n r m edges) in
     let all : length order ≡ length L = ap length (a .list) in
     let whole : take (length order) L ≡ order = rw (all, take-length L) (sym (a .list)) in

@@ -1,10 +1,11 @@
 // The values, from the end of the removal list to its start. Each edge that has its value is put back on its vertices, so that a vertex is visited where its degree is not 0.
-use crate::edges::{value_sum, vertex};
-use crate::tally::{first_of_degree, link};
+use crate::edges::value_sum;
+use crate::edges::vertex;
+use crate::tally::first_of_degree;
+use crate::tally::link;
 ghost use mathlib.Core.Path.{_≡_};
 ghost use Prim.Native.Nat.{_<_};
 ghost use lib.ListN.{length};
-ghost use Rattle.graph.specs.Peeling.{removalList, numberLeft};
 ghost use Rattle.graph.specs.Assignment.{values as valuesOf};
 ghost use Rattle.peeling.specs.Arrays.{oneByte, graphIn, Holds};
 ghost use Rattle.peeling.specs.Assigning.{Free, Given, AllRemoved};
@@ -22,7 +23,14 @@ fn unassign(r: usize, values: &mut [u8])
 }
 
 // Edge e gives its lowest unvisited vertex the value with which it lands there, and is put back.
-fn assign_edge(r: usize, e: usize, edges: &[u16], degrees: &mut [u16], sums: &mut [u32], values: &mut [u8])
+fn assign_edge(
+    r: usize,
+    e: usize,
+    edges: &[u16],
+    degrees: &mut [u16],
+    sums: &mut [u32],
+    values: &mut [u8],
+)
     requires { ⌜ Free r e (now edges) (now degrees) (now sums) (now values) ⌝ }
     ensures { λ _. ⌜ Given r e (now (edges .entry)) (now (degrees .entry)) (now (sums .entry)) (now (values .entry)) (now (degrees .exit)) (now (sums .exit)) (now (values .exit)) ⌝ }
 {
@@ -34,9 +42,16 @@ fn assign_edge(r: usize, e: usize, edges: &[u16], degrees: &mut [u16], sums: &mu
 }
 
 // The values of all vertices, where all edges are removed and stand in order, first removed first.
-pub fn assign(r: usize, edges: &[u16], order: &[u16], degrees: &mut [u16], sums: &mut [u32], values: &mut [u8])
-    requires { ⌜ AllRemoved (length (now order)) r (length (now values)) (now edges) (now order) (now degrees) (now sums) ⌝ }
-    ensures { λ _. ⌜ Holds (length (now (values .entry))) (valuesOf (graphIn (length (now (order .entry))) r (length (now (values .entry))) (now (edges .entry)))) (now (values .exit)) ⌝ }
+pub fn assign(
+    r: usize,
+    edges: &[u16],
+    order: &[u16],
+    degrees: &mut [u16],
+    sums: &mut [u32],
+    values: &mut [u8],
+)
+    requires { ⌜ AllRemoved (length (now order)) r (length (now degrees)) (now edges) (now order) (now degrees) (now sums) (now values) ⌝ }
+    ensures { λ _. ⌜ Holds (length (now (degrees .entry))) (valuesOf (graphIn (length (now (order .entry))) r (length (now (degrees .entry))) (now (edges .entry)))) (now (values .exit)) ⌝ }
 {
     unassign(r, values);
     let mut k = order.len();

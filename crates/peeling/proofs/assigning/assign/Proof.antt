@@ -1,0 +1,103 @@
+-- `peeling::assigning::assign` meets its contract. The invariant: the edges after the first k have their values and are back on their vertices. The measure is k. Assumes nothing.
+use mathlib.Core.Path.{_≡_, refl, sym, ap, _∙_}
+use Prim.Native.Nat.{ℕ, _+_, _-_, _≤_, _<_}
+use native.Mathlib.Omega.{arith}
+use lib.ListN.{length, getD}
+use Rattle.graph.specs.Peeling.{removalList}
+use Rattle.peeling.specs.Arrays.{graphIn}
+use Rattle.peeling.specs.Assigning.{Free, Given}
+use Rattle.peeling.specs.AssigningSteps.{Back, back-none, back-free, back-more, back-all}
+use Rattle.peeling.proofs.assigning.assign.Statement.{statement}
+use Rattle.peeling.proofs.assigning.assign.Tie as tie
+
+abbrev Inv-loop : tie.InvT-loop
+Inv-loop r edges order degrees₀ sums₀ values₀ k₀ degrees sums values k = (k ≤ length order) × Back (length order) r (length degrees₀) edges degrees sums values k
+
+abbrev μ-loop : tie.MeasureT-loop
+μ-loop r edges order degrees₀ sums₀ values₀ k₀ degrees sums values k = k
+
+abbrev start : tie.After-unassign Inv-loop μ-loop → tie.Start Inv-loop μ-loop
+start c = c .before .before .before .before .before .before .before
+
+-- in a turn: edge number k - 1 of the removal list
+module _ (c : tie.In-loop Inv-loop μ-loop) where
+  abbrev s : tie.Start Inv-loop μ-loop
+  s = start (c .before .before .before .before)
+
+  abbrev k : ℕ
+  k = c .before .loop .k - 1
+
+  abbrev n : ℕ
+  n = length (s .args .order .now)
+
+  abbrev m : ℕ
+  m = length (s .args .degrees .now)
+
+  abbrev e : ℕ
+  e = getD (s .args .order .now) k 0
+
+  k-below : k < n
+  k-below = omega (arith, c .before .loop .inv .0, c .loop-test .taken)
+
+  back : Back n (s .args .r) m (s .args .edges .now) (c .before .loop .degrees) (c .before .loop .sums) (c .before .loop .values) (k + 1)
+  back = let i : k + 1 ≡ c .before .loop .k = omega (arith, c .loop-test .taken) in rw i (c .before .loop .inv .1)
+
+  e-is : e ≡ getD (removalList (graphIn n (s .args .r) m (s .args .edges .now))) k 0
+  e-is = ap (λ l. getD l k 0) (s .pre .list)
+
+  free : Free (s .args .r) e (s .args .edges .now) (c .before .loop .degrees) (c .before .loop .sums) (c .before .loop .values)
+  free = rw e-is (back-free (s .pre .held) (s .pre .nothing) k k-below back)
+
+unassign-requires : tie.Need-unassign-requires Inv-loop μ-loop
+unassign-requires c κs = c .before .before .before .before .before .before .pre .held .smallArity
+
+loop-holds : tie.Need-loop-holds Inv-loop μ-loop
+loop-holds c =
+    let u = c .before .before in
+    let p = start u .pre in
+    (omega arith, back-none p (u .unassign .last .1 .0) (u .unassign .kept .1 .0 ∙ p .forValues) (rw (sym (p .forValues)) (u .unassign .ensures)))
+
+sub-k : tie.Need-sub-k Inv-loop μ-loop
+sub-k c = omega arith
+
+mul-assign-edge : tie.Need-mul-assign-edge Inv-loop μ-loop
+mul-assign-edge c = omega (arith, k-below c)
+
+shared-slice-read-assign-edge : tie.Need-shared-slice-read-assign-edge Inv-loop μ-loop
+shared-slice-read-assign-edge c = k-below (c .before)
+
+cast-assign-edge : tie.Need-cast-assign-edge Inv-loop μ-loop
+cast-assign-edge c = omega (arith, free (c .before) .room .edge)
+
+assign-edge-requires : tie.Need-assign-edge-requires Inv-loop μ-loop
+assign-edge-requires c κs = free (c .before .before .before .before)
+
+loop-less : tie.Need-loop-less Inv-loop μ-loop
+loop-less c = omega arith
+
+loop-again : tie.Need-loop-again Inv-loop μ-loop
+loop-again c =
+    let a = c .before .before .before .before .before .before in
+    let l = a .before .before .before .before .before in
+    let w = back l .wide in (
+      omega (arith, k-below l),
+      back-more (s l .pre .held) (s l .pre .nothing) (k l) (k-below l) (back l) (rw (e-is l) at (a .assign-edge .ensures))
+          (record { forDegrees = a .assign-edge .kept .1 .1 .1 .0 ∙ w .forDegrees; forSums = a .assign-edge .kept .1 .1 .1 .1 .0 ∙ w .forSums }),
+    )
+
+same-length : tie.Need-same-length Inv-loop μ-loop
+same-length c = c .before .loop .inv .1 .wide .forDegrees
+
+same-length-2 : tie.Need-same-length-2 Inv-loop μ-loop
+same-length-2 c = c .before .loop .inv .1 .wide .forSums ∙ sym (start (c .before .before .before .before) .pre .wide .forSums)
+
+same-length-3 : tie.Need-same-length-3 Inv-loop μ-loop
+same-length-3 c = c .before .loop .inv .1 .forValues ∙ sym (start (c .before .before .before .before) .pre .forValues)
+
+returns : tie.Need-returns Inv-loop μ-loop
+returns c = let z : c .before .loop .k ≡ 0 = omega arith in back-all (rw z at (c .before .loop .inv .1))
+
+pub assign-spec : {M : Type 1} → statement M
+assign-spec =
+    tie.close
+    (tie.spec Inv-loop μ-loop unassign-requires loop-holds sub-k mul-assign-edge shared-slice-read-assign-edge cast-assign-edge assign-edge-requires loop-less loop-again same-length same-length-2 same-length-3 returns)
