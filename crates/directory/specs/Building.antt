@@ -8,7 +8,7 @@ use Rattle.counting.specs.Below.{any, lowest}
 use Rattle.graph.specs.Graph.{Graph}
 use Rattle.graph.specs.Peeling.{numberLeft}
 use Rattle.graph.specs.Group.{Group}
-use Rattle.graph.specs.Assignment.{values, line}
+use Rattle.graph.specs.Assignment.{values, line, edgeOfLine}
 use Rattle.directory.specs.declared.Built.{Built}
 use Rattle.directory.specs.declared.Built.the-variants.{Done, Refused}
 use Rattle.directory.specs.Sizes.{Header, arityAllowed, partAllowed, codesAllowed, vertexCount}
@@ -59,7 +59,7 @@ module _ (K : Kind) (I : Lent) where
 
   -- the code of line l
   unfoldable pub key : ℕ → List ℕ
-  key l = codeOf (lowest n (λ k. eqb (lineOf k) l))
+  key l = codeOf (edgeOfLine graph l)
 
   unfoldable pub fileOf : List ℕ
   fileOf = file K header weight (values graph) key

@@ -43,7 +43,7 @@ pub record Table : Type 0 where
   pub visited : ℕ → Bool
 
 module _ (G : Graph) where
-  open Graph G using (arity, vertexOf)
+  open Graph G using (edges, arity, vertexOf)
 
   -- all vertices start unvisited, with the value r
   unfoldable pub fresh : Table
@@ -81,3 +81,7 @@ module _ (G : Graph) where
   -- the line of an edge is the number of assigned vertices below its landing vertex
   unfoldable pub line : ℕ → ℕ
   line e = assignedBelow arity values (landingVertex e)
+
+  -- the edge of line l
+  unfoldable pub edgeOfLine : ℕ → ℕ
+  edgeOfLine l = lowest edges (λ e. eqb (line e) l)

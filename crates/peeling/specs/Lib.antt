@@ -11,3 +11,5 @@ pub mod Assigning
 pub mod AssigningSteps
 pub mod Ranking
 pub mod RankingSteps
+pub mod Arranging
+pub mod ArrangingLaws

@@ -9,28 +9,38 @@ use lib.Seq.{take-suc, length-take-le, take-take, getD-take, drop-cons, take-at,
 use Rattle.counting.specs.Lists.{occurrences}
 use Rattle.counting.specs.OccurrenceLaws.{occurrences-back}
 use Rattle.graph.specs.Graph.{Graph}
-use Rattle.graph.specs.Peeling.{unremoved, followAll, peel}
+use Rattle.graph.specs.Peeling.{unremoved, firstWaiting, followAll, peel, removalList}
 use Rattle.graph.specs.DegreeLaws.{OneMore, removed-one-more}
 use Rattle.graph.specs.QueueLaws.{Sound, follow-all-sound}
-use Rattle.graph.specs.PeelingLaws.{front-edge, front-absent, step-sound, peel-none}
-use Rattle.peeling.specs.Arrays.{graphIn, Wide, Tallied}
+use Rattle.graph.specs.PeelingLaws.{start-peeled, front-edge, front-absent, step-sound, peel-none}
+use Rattle.peeling.specs.Arrays.{graphIn, Held, Wide, Tallied}
 use Rattle.peeling.specs.Linking.{Added, Enough}
 use Rattle.peeling.specs.TallyLaws.{tallied-less, tallied-enough}
-use Rattle.peeling.specs.Queue.{removedOf, waitingOf, Queued, Ready, Peeled}
+use Rattle.peeling.specs.Queue.{removedOf, waitingOf, Queued, Ready, Starts, Peeled}
 
--- between two turns: the arrays are ready, and from here the peeling gives what it gives from the first queue
-pub record Going (n r m : ℕ) (edges first D C M O : List ℕ) (head tail : ℕ) : Type 0 where
+-- the first queue stands in the array: the peeling can start
+pub starts-ready : {n r m : ℕ} {edges D C M O : List ℕ} {tail : ℕ} → Held n r m edges → Wide m D C → length M ≡ n → length O ≡ n → Tallied (graphIn n r m edges) (unremoved []) D C → Queued n [] (firstWaiting (graphIn n r m edges)) M O tail → Starts n r m edges D C M O tail
+starts-ready {n} {r} {m} {edges} held wide forMarks forOrder tallied q =
+    record {
+      high = q .high;
+      ready = rw (q .list) (record { held = held; wide = wide; forMarks = forMarks; forOrder = forOrder; sound = start-peeled (graphIn n r m edges) .sound; tallied = tallied; marks = q .marks });
+      isFirst = q .list;
+    }
+
+-- between two turns: the arrays are ready, and from here the peeling gives the removal list
+pub record Going (n r m : ℕ) (edges D C M O : List ℕ) (head tail : ℕ) : Type 0 where
   pub low : head ≤ tail
   pub high : tail ≤ n
   pub ready : Ready n r m edges D C M O (removedOf O head) (waitingOf O head tail)
-  pub same : peel (graphIn n r m edges) (n - head) (removedOf O head) (waitingOf O head tail) ≡ peel (graphIn n r m edges) n [] first
+  pub same : peel (graphIn n r m edges) (n - head) (removedOf O head) (waitingOf O head tail) ≡ removalList (graphIn n r m edges)
 
-pub going-start : {n r m : ℕ} {edges D C M O : List ℕ} (tail : ℕ) → tail ≤ n → Ready n r m edges D C M O [] (take tail O) → Going n r m edges (take tail O) D C M O 0 tail
-going-start {n} tail h R = let z : n - 0 ≡ n = omega arith in record { low = omega arith; high = h; ready = R; same = rw z }
+pub going-start : {n r m : ℕ} {edges D C M O : List ℕ} {tail : ℕ} → Starts n r m edges D C M O tail → Going n r m edges D C M O 0 tail
+unfolding removalList
+going-start {n} s = let z : n - 0 ≡ n = omega arith in record { low = omega arith; high = s .high; ready = s .ready; same = rw (z, s .isFirst) }
 
 -- ---- the front edge e is removed
 
-module _ {n r m : ℕ} {edges first D C M O : List ℕ} {head tail : ℕ} (g : Going n r m edges first D C M O head tail) (more-wait : head < tail) where
+module _ {n r m : ℕ} {edges D C M O : List ℕ} {head tail : ℕ} (g : Going n r m edges D C M O head tail) (more-wait : head < tail) where
   abbrev R : Ready n r m edges D C M O (removedOf O head) (waitingOf O head tail)
   R = g .ready
 
@@ -98,7 +108,7 @@ module _ {n r m : ℕ} {edges first D C M O : List ℕ} {head tail : ℕ} (g : G
     now-waiting : waitingOf O′ (head + 1) tail′ ≡ joined
     now-waiting = ap (drop (head + 1)) (Q .list) ∙ drop-at (take (head + 1) O) _ (head + 1) len
 
-    pub going-next : Going n r m edges first D′ C′ M′ O′ (head + 1) tail′
+    pub going-next : Going n r m edges D′ C′ M′ O′ (head + 1) tail′
     going-next =
         record {
           low = within;
@@ -119,7 +129,7 @@ module _ {n r m : ℕ} {edges first D C M O : List ℕ} {head tail : ℕ} (g : G
 
 -- ---- at the end none waits
 
-pub going-end : {n r m : ℕ} {edges first D C M O : List ℕ} {head tail : ℕ} → Going n r m edges first D C M O head tail → tail ≤ head → Peeled (graphIn n r m edges) first D C O head
+pub going-end : {n r m : ℕ} {edges D C M O : List ℕ} {head tail : ℕ} → Going n r m edges D C M O head tail → tail ≤ head → Peeled (graphIn n r m edges) D C O head
 going-end {n} {r} {m} {edges} {O = O} {head} {tail} g h =
     let z : length (take tail O) ≤ head = omega (arith, length-take tail O) in
     record {

@@ -5,7 +5,7 @@ use Prim.Native.Nat.{ℕ, _+_, _≤_}
 use lib.ListN.{length, getD, take, drop}
 use Rattle.counting.specs.Lists.{occurrences}
 use Rattle.graph.specs.Graph.{Graph}
-use Rattle.graph.specs.Peeling.{unremoved, peel}
+use Rattle.graph.specs.Peeling.{unremoved, firstWaiting, removalList}
 use Rattle.graph.specs.QueueLaws.{Sound}
 use Rattle.peeling.specs.Arrays.{graphIn, Held, Wide, Holds, Tallied}
 
@@ -42,8 +42,14 @@ pub record Ready (n r m : ℕ) (edges degrees sums queued order removed waiting 
   pub tallied : Tallied (graphIn n r m edges) (unremoved removed) degrees sums
   pub marks : Marked n removed waiting queued
 
--- what the peeling of G from a first queue leaves: so many edges are removed, and the arrays are those of the others
-pub record Peeled (G : Graph) (first degrees sums order : List ℕ) (removed : ℕ) : Type 0 where
+-- the arrays at its start: the first queue waits
+pub record Starts (n r m : ℕ) (edges degrees sums queued order : List ℕ) (tail : ℕ) : Type 0 where
+  pub high : tail ≤ n
+  pub ready : Ready n r m edges degrees sums queued order [] (take tail order)
+  pub isFirst : take tail order ≡ firstWaiting (graphIn n r m edges)
+
+-- and at its end: so many edges are removed, and the degrees and sums are those of the others
+pub record Peeled (G : Graph) (degrees sums order : List ℕ) (removed : ℕ) : Type 0 where
   pub most : removed ≤ G .edges
-  pub list : removedOf order removed ≡ peel G (G .edges) [] first
+  pub list : removedOf order removed ≡ removalList G
   pub tallied : Tallied G (unremoved (removedOf order removed)) degrees sums

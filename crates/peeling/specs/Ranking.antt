@@ -11,7 +11,7 @@ abbrev pub lineIn : ℕ → List ℕ → List ℕ → List ℕ → ℕ → ℕ
 lineIn r edges values below e = getD below (landing r (λ x. getD values x 0) (vertexAt r edges e)) 0
 
 -- n edges whose lines are below n and differ
-pub record Lined (n r : ℕ) (edges values below : List ℕ) : Type 0 where
+pub record Distinct (n r : ℕ) (edges values below : List ℕ) : Type 0 where
   pub some : 1 ≤ r
   pub smallArity : r < oneByte
   pub fewEdges : n < twoBytes

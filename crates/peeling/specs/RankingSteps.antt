@@ -14,7 +14,7 @@ use Rattle.counting.specs.Below.{sum}
 use Rattle.counting.specs.CountLaws.{count-most}
 use Rattle.graph.specs.Assignment.{assigned, landing, assignedBelow}
 use Rattle.peeling.specs.Arrays.{vertexAt}
-use Rattle.peeling.specs.Ranking.{lineIn, Lined, Keyed}
+use Rattle.peeling.specs.Ranking.{lineIn, Distinct, Keyed}
 
 -- ---- one vertex more is looked at
 
@@ -39,7 +39,7 @@ pub record KeyTurn (e r x : ℕ) (edges values below keys : List ℕ) : Type 0 w
   pub ordered : Keyed (e + 1) r edges values below (set keys (getD below x 0) e)
 
 pub key-turn : {n r : ℕ} {edges values below keys : List ℕ} {e : ℕ}
-    → Lined n r edges values below
+    → Distinct n r edges values below
     → e < n
     → length keys ≡ n
     → Keyed e r edges values below keys

@@ -1,6 +1,59 @@
-// Peeling, assignment and rank over arrays that the caller lends: from the vertices of the codes to the number left, the values, the rank entries and the order of the codes by line.
-mod edges; // edges.rt: the vertices of an edge
+// Peeling, assignment and rank over arrays that the caller lends: from the vertices of the edges to the number left, the values, the rank entries and the order of the edges by line.
+mod edges; // edges.rt: the vertices of an edge, and their values
 mod tally; // tally.rt: degrees and index sums
 mod queue; // queue.rt: the first queue, and the peeling
 mod assigning; // assigning.rt: the values
 mod ranking; // ranking.rt: rank entries, and the order of the edges by line
+
+use crate::assigning::assign;
+use crate::queue::first_queue;
+use crate::queue::peel;
+use crate::ranking::count_assigned;
+use crate::ranking::key_order;
+use crate::ranking::rank_entries;
+use crate::tally::tally;
+ghost use mathlib.Core.Path.{_≡_};
+ghost use Prim.Native.Nat.{ℕ, _*_, _<_};
+ghost use lib.ListN.{length};
+ghost use Rattle.graph.specs.Assignment.{blockSize};
+ghost use Rattle.peeling.specs.Arrays.{Held, graphIn};
+ghost use Rattle.peeling.specs.Queue.{Peeled};
+ghost use Rattle.peeling.specs.Assigning.{AllRemoved};
+ghost use Rattle.peeling.specs.Arranging.{Lent, Lined, Arranged};
+
+// Peels all edges that can be removed, and returns how many were: they stand in order, first removed first. `queued` is written.
+fn remove_all(r: usize, edges: &[u16], degrees: &mut [u16], sums: &mut [u32], queued: &mut [u16], order: &mut [u16]) -> usize
+    requires held { ⌜ Held (length (now order)) r (length (now degrees)) (now edges) ⌝ }
+    requires even { ⌜ (length (now sums) ≡ length (now degrees)) × (length (now queued) ≡ length (now order)) ⌝ }
+    ensures { λ removed. ⌜ Peeled (graphIn (length (now (order .entry))) r (length (now (degrees .entry))) (now (edges .entry))) (now (degrees .exit)) (now (sums .exit)) (now (order .exit)) removed ⌝ }
+{
+    tally(order.len(), r, edges, degrees, sums);
+    let tail = first_queue(r, edges, degrees, queued, order);
+    peel(r, tail, edges, degrees, sums, queued, order)
+}
+
+// Gives each edge its line, where all are removed and stand in order, first removed first: the values, the rank entries and the edges in the order of their lines.
+fn give_lines(r: usize, edges: &[u16], order: &[u16], degrees: &mut [u16], sums: &mut [u32], values: &mut [u8], rank: &mut [u16], keys: &mut [u16])
+    requires removed { ⌜ AllRemoved (length (now order)) r (length (now degrees)) (now edges) (now order) (now degrees) (now sums) (now values) ⌝ }
+    requires blocks { ⌜ ((b : ℕ) → b < length (now rank) → blockSize * b < length (now degrees)) ⌝ }
+    requires even { ⌜ length (now keys) ≡ length (now order) ⌝ }
+    ensures { λ _. ⌜ Lined (graphIn (length (now (order .entry))) r (length (now (degrees .entry))) (now (edges .entry))) (length (now (rank .entry))) (now (values .exit)) (now (rank .exit)) (now (keys .exit)) ⌝ }
+{
+    assign(r, edges, order, degrees, sums, values);
+    count_assigned(r, values, degrees);
+    rank_entries(degrees, rank);
+    key_order(r, edges, values, degrees, keys);
+}
+
+// The whole sequence over arrays with an entry for each vertex, each edge and each block. Returns the number of edges left over; where none is, the values, the rank entries and the edges in the order of their lines are written.
+fn arrange_all(r: usize, edges: &[u16], degrees: &mut [u16], sums: &mut [u32], order: &mut [u16], values: &mut [u8], rank: &mut [u16], keys: &mut [u16]) -> usize
+    requires { ⌜ Lent (length (now order)) r (length (now degrees)) (now edges) (now sums) (now values) (now rank) (now keys) ⌝ }
+    ensures { λ left. ⌜ Arranged (graphIn (length (now (order .entry))) r (length (now (degrees .entry))) (now (edges .entry))) (length (now (rank .entry))) (now (values .exit)) (now (rank .exit)) (now (keys .exit)) left ⌝ }
+{
+    let removed = remove_all(r, edges, degrees, sums, keys, order);
+    if removed < order.len() {
+        return order.len() - removed;
+    }
+    give_lines(r, edges, order, degrees, sums, values, rank, keys);
+    0
+}

@@ -4,11 +4,11 @@ use crate::tally::first_of_degree;
 use crate::tally::unlink;
 ghost use mathlib.Core.Path.{_≡_};
 ghost use mathlib.Core.List.{[]};
-ghost use Prim.Native.Nat.{_-_, _≤_};
-ghost use lib.ListN.{length, getD, take};
+ghost use Prim.Native.Nat.{_-_};
+ghost use lib.ListN.{length, getD};
 ghost use Rattle.graph.specs.Peeling.{degree, firstWaiting, followAll};
 ghost use Rattle.peeling.specs.Arrays.{Held, graphIn, Holds};
-ghost use Rattle.peeling.specs.Queue.{Ready, Queued, Bounds, Peeled, removedOf, waitingOf};
+ghost use Rattle.peeling.specs.Queue.{Ready, Queued, Bounds, Starts, Peeled, removedOf, waitingOf};
 
 // The first queue: every edge, in list order, that has a vertex of degree 1. Returns its length, and marks the edges in it.
 pub fn first_queue(
@@ -71,7 +71,7 @@ fn enqueue(
     t
 }
 
-// Peels on from the queue order[..tail], and returns how many edges were removed: they stand in order, first removed first.
+// Peels from the first queue, order[..tail], and returns how many edges were removed: they stand in order, first removed first.
 pub fn peel(
     r: usize,
     tail: usize,
@@ -81,9 +81,8 @@ pub fn peel(
     queued: &mut [u16],
     order: &mut [u16],
 ) -> usize
-    requires bounds { ⌜ tail ≤ length (now order) ⌝ }
-    requires ready { ⌜ Ready (length (now order)) r (length (now degrees)) (now edges) (now degrees) (now sums) (now queued) (now order) [] (take tail (now order)) ⌝ }
-    ensures { λ removed. ⌜ Peeled (graphIn (length (now (order .entry))) r (length (now (degrees .entry))) (now (edges .entry))) (take tail (now (order .entry))) (now (degrees .exit)) (now (sums .exit)) (now (order .exit)) removed ⌝ }
+    requires { ⌜ Starts (length (now order)) r (length (now degrees)) (now edges) (now degrees) (now sums) (now queued) (now order) tail ⌝ }
+    ensures { λ removed. ⌜ Peeled (graphIn (length (now (order .entry))) r (length (now (degrees .entry))) (now (edges .entry))) (now (degrees .exit)) (now (sums .exit)) (now (order .exit)) removed ⌝ }
 {
     let mut head = 0;
     let mut t = tail;

@@ -6,7 +6,7 @@ ghost use Prim.Native.Nat.{ℕ, _*_, _<_};
 ghost use lib.ListN.{length, getD};
 ghost use Rattle.graph.specs.Assignment.{assignedBelow, blockSize};
 ghost use Rattle.peeling.specs.Arrays.{twoBytes, Holds};
-ghost use Rattle.peeling.specs.Ranking.{Lined, Keyed};
+ghost use Rattle.peeling.specs.Ranking.{Distinct, Keyed};
 
 // Where the blocks of vertices are this long, each has a rank entry.
 const BLOCK: usize = 64;
@@ -42,7 +42,7 @@ pub fn rank_entries(below: &[u16], rank: &mut [u16])
 
 // Puts each edge in the place of its line.
 pub fn key_order(r: usize, edges: &[u16], values: &[u8], below: &[u16], keys: &mut [u16])
-    requires { ⌜ Lined (length (now keys)) r (now edges) (now values) (now below) ⌝ }
+    requires { ⌜ Distinct (length (now keys)) r (now edges) (now values) (now below) ⌝ }
     ensures { λ _. ⌜ Keyed (length (now (keys .entry))) r (now (edges .entry)) (now (values .entry)) (now (below .entry)) (now (keys .exit)) ⌝ }
 {
     let mut e = 0;

@@ -1,9 +1,9 @@
--- `peeling::queue::peel` meets its contract. The invariant: the arrays are ready, and from here the peeling gives what it gives from the start. The measure is the number of edges not removed. Assumes nothing.
+-- `peeling::queue::peel` meets its contract. The invariant: the arrays are ready, and from here the peeling gives the removal list. The measure is the number of edges not removed. Assumes nothing.
 use mathlib.Core.Path.{_≡_, sym, _∙_}
 use mathlib.Core.List.{List}
 use Prim.Native.Nat.{ℕ, _+_, _-_, _<_}
 use native.Mathlib.Omega.{arith}
-use lib.ListN.{length, getD, take}
+use lib.ListN.{length, getD}
 use Rattle.graph.specs.Peeling.{followAll}
 use Rattle.peeling.specs.Arrays.{graphIn}
 use Rattle.peeling.specs.Queue.{Queued, Ready, removedOf, waitingOf}
@@ -13,7 +13,7 @@ use Rattle.peeling.proofs.queue.peel.Tie as tie
 
 abbrev Inv-loop : tie.InvT-loop
 Inv-loop r tail edges degrees₀ sums₀ queued₀ order₀ head₀ t₀ degrees sums queued order head t =
-    Going (length order₀) r (length degrees₀) edges (take tail order₀) degrees sums queued order head t
+    Going (length order₀) r (length degrees₀) edges degrees sums queued order head t
 
 abbrev μ-loop : tie.MeasureT-loop
 μ-loop r tail edges degrees₀ sums₀ queued₀ order₀ head₀ t₀ degrees sums queued order head t = length order₀ - head
@@ -54,11 +54,11 @@ module _ (c : tie.After-enqueue Inv-loop μ-loop) where
   joined : let o = l .before .loop .order in let h = l .before .loop .head in let a = start l .args in Queued (n l) (removedOf o (h + 1)) (followAll (graphIn (n l) (a .r) (m l) (a .edges .now)) (removedOf o (h + 1)) (getD o h 0) (a .r) (waitingOf o (h + 1) (l .before .loop .t))) (c .enqueue .last .1 .1 .1 .1 .1 .1 .0) (c .enqueue .last .1 .1 .1 .1 .1 .1 .1 .0) (c .enqueue .result)
   joined = let k : l .before .loop .head + 1 - 1 ≡ l .before .loop .head = omega arith in rw (off un .forOrder, off un .wide .forDegrees, k) at (c .enqueue .ensures)
 
-  next : let a = start l .args in Going (n l) (a .r) (m l) (a .edges .now) (take (a .tail) (a .order .now)) (un .unlink .last .1 .1 .1 .0) (un .unlink .last .1 .1 .1 .1 .0) (c .enqueue .last .1 .1 .1 .1 .1 .1 .0) (c .enqueue .last .1 .1 .1 .1 .1 .1 .1 .0) (l .before .loop .head + 1) (c .enqueue .result)
+  next : let a = start l .args in Going (n l) (a .r) (m l) (a .edges .now) (un .unlink .last .1 .1 .1 .0) (un .unlink .last .1 .1 .1 .1 .0) (c .enqueue .last .1 .1 .1 .1 .1 .1 .0) (c .enqueue .last .1 .1 .1 .1 .1 .1 .1 .0) (l .before .loop .head + 1) (c .enqueue .result)
   next = going-next (l .before .loop .inv) (l .loop-test .taken) (off un) joined (c .enqueue .kept .1 .1 .1 .1 .1 .1 .0 ∙ off un .forMarks) (c .enqueue .kept .1 .1 .1 .1 .1 .1 .1 .0 ∙ off un .forOrder)
 
 loop-holds : tie.Need-loop-holds Inv-loop μ-loop
-loop-holds c = let p = c .before .before .before .before .before .pre in going-start _ (p .0) (p .1)
+loop-holds c = going-start (c .before .before .before .before .before .pre)
 
 mul-e : tie.Need-mul-e Inv-loop μ-loop
 mul-e c = let g = c .before .loop .inv in omega (arith, g .high, start c .good)
@@ -92,10 +92,10 @@ same-length : tie.Need-same-length Inv-loop μ-loop
 same-length c = c .before .loop .inv .ready .wide .forDegrees
 
 same-length-2 : tie.Need-same-length-2 Inv-loop μ-loop
-same-length-2 c = c .before .loop .inv .ready .wide .forSums ∙ sym (c .before .before .before .before .before .before .before .pre .1 .wide .forSums)
+same-length-2 c = c .before .loop .inv .ready .wide .forSums ∙ sym (c .before .before .before .before .before .before .before .pre .ready .wide .forSums)
 
 same-length-3 : tie.Need-same-length-3 Inv-loop μ-loop
-same-length-3 c = c .before .loop .inv .ready .forMarks ∙ sym (c .before .before .before .before .before .before .before .pre .1 .forMarks)
+same-length-3 c = c .before .loop .inv .ready .forMarks ∙ sym (c .before .before .before .before .before .before .before .pre .ready .forMarks)
 
 same-length-4 : tie.Need-same-length-4 Inv-loop μ-loop
 same-length-4 c = c .before .loop .inv .ready .forOrder

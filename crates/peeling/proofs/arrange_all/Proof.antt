@@ -1,0 +1,71 @@
+-- `peeling::arrange_all` meets its contract. Assumes nothing.
+use mathlib.Core.Path.{_≡_, sym, _∙_}
+use mathlib.Core.List.{List}
+use Prim.Native.Nat.{ℕ, _≤_}
+use native.Mathlib.Omega.{arith}
+use lib.ListN.{length}
+use Rattle.peeling.specs.Assigning.{AllRemoved}
+use Rattle.peeling.specs.ArrangingLaws.{peeled-number, peeled-all}
+use Rattle.peeling.proofs.arrange_all.Statement.{statement}
+use Rattle.peeling.proofs.arrange_all.Tie as tie
+
+-- once what can be removed is removed
+module _ (c : tie.After-remove-all) where
+  abbrev s : tie.Start
+  s = c .before .before .before .before .before .before .before .before .before .before .before .before
+
+  abbrev n : ℕ
+  n = length (s .args .order .now)
+
+  abbrev m : ℕ
+  m = length (s .args .degrees .now)
+
+  abbrev order : List ℕ
+  order = c .remove-all .last .1 .1 .1 .1 .1 .0
+
+  kept-order : length order ≡ n
+  kept-order = c .remove-all .kept .1 .1 .1 .1 .1 .0
+
+  kept-degrees : length (c .remove-all .last .1 .1 .0) ≡ m
+  kept-degrees = c .remove-all .kept .1 .1 .0
+
+  all : n ≤ c .remove-all .result → AllRemoved n (s .args .r) m (s .args .edges .now) order (c .remove-all .last .1 .1 .0) (c .remove-all .last .1 .1 .1 .0) (s .args .values .now)
+  all h = peeled-all (c .remove-all .ensures) kept-order h (s .pre .held) (record { forDegrees = kept-degrees; forSums = c .remove-all .kept .1 .1 .1 .0 ∙ s .pre .forSums }) _ (s .pre .forValues)
+
+abbrev then : tie.Then1 → tie.After-remove-all
+then c = c .before .before .before .before .before .before .before .before .before
+
+abbrev else : tie.Else1 → tie.After-remove-all
+else c = c .before .before .before .before .before .before .before .before .before
+
+remove-all-requires : tie.Need-remove-all-requires
+remove-all-requires c κs = let p = c .before .before .before .before .before .before .before .before .before .before .before .pre in (p .held, (p .forSums, p .forKeys))
+
+sub-result : tie.Need-sub-result
+sub-result c = omega arith
+
+same-length : tie.Need-same-length
+same-length c = kept-degrees (then c)
+
+same-length-2 : tie.Need-same-length-2
+same-length-2 c = then c .remove-all .kept .1 .1 .1 .0
+
+same-length-3 : tie.Need-same-length-3
+same-length-3 c = kept-order (then c)
+
+same-length-4 : tie.Need-same-length-4
+same-length-4 c = then c .remove-all .kept .1 .1 .1 .1 .0
+
+returns : tie.Need-returns
+returns c =
+    let t = then c in
+    record { isLeft = omega (arith, peeled-number (t .remove-all .ensures) (kept-order t), c .if1 .taken, kept-order t); lined = λ z. absurd (omega (arith, c .if1 .taken, z)) }
+
+give-lines-requires : tie.Need-give-lines-requires
+give-lines-requires c κs = ?
+
+same-length-5 : tie.Need-same-length-5
+same-length-5 c = ?
+
+pub arrange-all-spec : {M : Type 1} → statement M
+arrange-all-spec = ?

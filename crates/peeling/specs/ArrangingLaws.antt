@@ -1,0 +1,76 @@
+-- From the end of the peeling to the values, and from these to the lines. Assumes nothing.
+use mathlib.Core.Path.{_≡_, refl, sym, ap, _∙_}
+use mathlib.Core.List.{List}
+use Prim.Native.Nat.{ℕ, _+_, _*_, _%_, _≤_, _<_}
+use native.Mathlib.Nat.{mod-lt}
+use native.Mathlib.Omega.{arith}
+use lib.Dec.{eqb}
+use lib.ListN.{length, getD, take}
+use lib.Seq.{take-all, length-take-le}
+use borrow.Author.Tests.{eqb-true, eq-eqb}
+use Rattle.counting.specs.Below.{sum, bit, lowest}
+use Rattle.counting.specs.BelowLaws.{sum-equal}
+use Rattle.counting.specs.SearchLaws.{lowest-some}
+use Rattle.graph.specs.Graph.{Graph}
+use Rattle.graph.specs.Peeling.{numberLeft}
+use Rattle.graph.specs.Assignment.{assigned, landing, assignedBelow, blockSize, rankEntry, values, landingVertex, line, edgeOfLine}
+use Rattle.graph.specs.PeelingLaws.{left-and-removed}
+use Rattle.graph.specs.LandingLaws.{landing-inside}
+use Rattle.graph.specs.LineLaws.{line-below, line-own, line-onto}
+use Rattle.peeling.specs.Arrays.{graphIn, vertexAt, Held, Wide, Holds}
+use Rattle.peeling.specs.TallyLaws.{held-vertices}
+use Rattle.peeling.specs.Queue.{Peeled}
+use Rattle.peeling.specs.Assigning.{AllRemoved}
+use Rattle.peeling.specs.Ranking.{lineIn, Distinct, Keyed}
+
+-- ---- the end of the peeling
+
+pub peeled-number : {G : Graph} {D C O : List ℕ} {removed : ℕ} → Peeled G D C O removed → length O ≡ G .edges → numberLeft G + removed ≡ G .edges
+peeled-number {G} {O = O} {removed} p o = omega (arith, left-and-removed G, ap length (p .list), length-take-le removed O (omega (arith, p .most)))
+
+pub peeled-all : {n r m : ℕ} {edges D C O : List ℕ} {removed : ℕ} → Peeled (graphIn n r m edges) D C O removed → length O ≡ n → n ≤ removed → Held n r m edges → Wide m D C → (W : List ℕ) → length W ≡ m → AllRemoved n r m edges O D C W
+peeled-all {O = O} {removed} p o all held wide W forValues =
+    let whole : take removed O ≡ O = take-all removed O (omega arith) in
+    record { held = held; wide = wide; forValues = forValues; nothing = omega (arith, peeled-number p o); list = sym whole ∙ p .list; tallied = rw whole at (p .tallied) }
+
+-- ---- W holds the values, B the number of assigned vertices below each
+
+module _ {n r m : ℕ} {edges : List ℕ} (held : Held n r m edges) (nothing : numberLeft (graphIn n r m edges) ≡ 0) (W B : List ℕ) (ofValues : Holds m (values (graphIn n r m edges)) W) (ofBelow : Holds m (assignedBelow r (λ x. getD W x 0)) B) where
+  abbrev G : Graph
+  G = graphIn n r m edges
+
+  below-is : (y : ℕ) → y < m → getD B y 0 ≡ assignedBelow r (values G) y
+  unfolding assignedBelow
+  below-is y l = ofBelow y l ∙ sum-equal y _ _ (λ x a. ap (λ v. bit (assigned r v)) (ofValues x (omega arith)))
+
+  landing-is : (e : ℕ) → e < n → landing r (λ x. getD W x 0) (vertexAt r edges e) ≡ landingVertex G e
+  unfolding landingVertex landing
+  landing-is e l = ap (λ s. vertexAt r edges e (s % r)) (sum-equal r _ _ (λ j a. ofValues (vertexAt r edges e j) (held .proper .inside e j l a)))
+
+  line-is : (e : ℕ) → e < n → lineIn r edges W B e ≡ line G e
+  unfolding line
+  line-is e l = ap (λ x. getD B x 0) (landing-is e l) ∙ below-is (landingVertex G e) (landing-inside G (held .proper) e l)
+
+  pub lines-distinct : length W ≡ m → length B ≡ m → Distinct n r edges W B
+  lines-distinct w b =
+      record {
+        some = held .proper .some;
+        smallArity = held .smallArity;
+        fewEdges = held .fewEdges;
+        even = b ∙ sym w;
+        vertices = λ e l. held-vertices held l (length W) (omega (arith, w));
+        inside = λ e l. rw (line-is e l) (line-below G (held .proper) nothing e l);
+        apart = λ e f l k i. line-own G (held .proper) nothing e f l k (sym (line-is e l) ∙ i ∙ line-is f k);
+      }
+
+  pub ranks-are : (k : ℕ) (R : List ℕ) → ((b : ℕ) → b < k → blockSize * b < m) → Holds k (λ b. getD B (blockSize * b) 0) R → Holds k (rankEntry r (values G)) R
+  unfolding rankEntry
+  ranks-are k R starts h b l = h b l ∙ below-is (blockSize * b) (starts b l)
+
+  pub keys-are : (K : List ℕ) → Keyed n r edges W B K → Holds n (edgeOfLine G) K
+  unfolding edgeOfLine
+  keys-are K h l a =
+      let w = line-onto G (held .proper) nothing l a in
+      let s = lowest-some n (λ e. eqb (line G e) l) (w .0) (w .1) (eq-eqb _ _ (w .2)) in
+      let own : line G (edgeOfLine G l) ≡ l = eqb-true _ _ (s .1) in
+      ap (λ i. getD K i 0) (sym own ∙ sym (line-is (edgeOfLine G l) (s .0))) ∙ h (edgeOfLine G l) (s .0)
