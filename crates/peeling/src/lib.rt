@@ -22,7 +22,14 @@ ghost use Rattle.peeling.specs.Assigning.{AllRemoved};
 ghost use Rattle.peeling.specs.Arranging.{Lent, Lined, Arranged};
 
 // Peels all edges that can be removed, and returns how many were: they stand in order, first removed first. `queued` is written.
-fn remove_all(r: usize, edges: &[u16], degrees: &mut [u16], sums: &mut [u32], queued: &mut [u16], order: &mut [u16]) -> usize
+fn remove_all(
+    r: usize,
+    edges: &[u16],
+    degrees: &mut [u16],
+    sums: &mut [u32],
+    queued: &mut [u16],
+    order: &mut [u16],
+) -> usize
     requires held { ⌜ Held (length (now order)) r (length (now degrees)) (now edges) ⌝ }
     requires even { ⌜ (length (now sums) ≡ length (now degrees)) × (length (now queued) ≡ length (now order)) ⌝ }
     ensures { λ removed. ⌜ Peeled (graphIn (length (now (order .entry))) r (length (now (degrees .entry))) (now (edges .entry))) (now (degrees .exit)) (now (sums .exit)) (now (order .exit)) removed ⌝ }
@@ -33,7 +40,16 @@ fn remove_all(r: usize, edges: &[u16], degrees: &mut [u16], sums: &mut [u32], qu
 }
 
 // Gives each edge its line, where all are removed and stand in order, first removed first: the values, the rank entries and the edges in the order of their lines.
-fn give_lines(r: usize, edges: &[u16], order: &[u16], degrees: &mut [u16], sums: &mut [u32], values: &mut [u8], rank: &mut [u16], keys: &mut [u16])
+fn give_lines(
+    r: usize,
+    edges: &[u16],
+    order: &[u16],
+    degrees: &mut [u16],
+    sums: &mut [u32],
+    values: &mut [u8],
+    rank: &mut [u16],
+    keys: &mut [u16],
+)
     requires removed { ⌜ AllRemoved (length (now order)) r (length (now degrees)) (now edges) (now order) (now degrees) (now sums) (now values) ⌝ }
     requires blocks { ⌜ ((b : ℕ) → b < length (now rank) → blockSize * b < length (now degrees)) ⌝ }
     requires even { ⌜ length (now keys) ≡ length (now order) ⌝ }
@@ -46,7 +62,16 @@ fn give_lines(r: usize, edges: &[u16], order: &[u16], degrees: &mut [u16], sums:
 }
 
 // The whole sequence over arrays with an entry for each vertex, each edge and each block. Returns the number of edges left over; where none is, the values, the rank entries and the edges in the order of their lines are written.
-fn arrange_all(r: usize, edges: &[u16], degrees: &mut [u16], sums: &mut [u32], order: &mut [u16], values: &mut [u8], rank: &mut [u16], keys: &mut [u16]) -> usize
+fn arrange_all(
+    r: usize,
+    edges: &[u16],
+    degrees: &mut [u16],
+    sums: &mut [u32],
+    order: &mut [u16],
+    values: &mut [u8],
+    rank: &mut [u16],
+    keys: &mut [u16],
+) -> usize
     requires { ⌜ Lent (length (now order)) r (length (now degrees)) (now edges) (now sums) (now values) (now rank) (now keys) ⌝ }
     ensures { λ left. ⌜ Arranged (graphIn (length (now (order .entry))) r (length (now (degrees .entry))) (now (edges .entry))) (length (now (rank .entry))) (now (values .exit)) (now (rank .exit)) (now (keys .exit)) left ⌝ }
 {

@@ -62,10 +62,48 @@ returns c =
     record { isLeft = omega (arith, peeled-number (t .remove-all .ensures) (kept-order t), c .if1 .taken, kept-order t); lined = λ z. absurd (omega (arith, c .if1 .taken, z)) }
 
 give-lines-requires : tie.Need-give-lines-requires
-give-lines-requires c κs = ?
+give-lines-requires c κs =
+    let e = c .before .before .before .before .before .before in
+    let d = else e in
+    let p = s d .pre in
+    rw (kept-order d, kept-degrees d) (all d (omega (arith, e .if1 .left, kept-order d)), (p .forRank, d .remove-all .kept .1 .1 .1 .1 .0 ∙ p .forKeys))
+
+-- once the lines are given
+module _ (c : tie.After-give-lines) where
+  abbrev d : tie.After-remove-all
+  d = else (c .before .before .before .before .before .before .before)
+
+abbrev lined : tie.After-slice-known15 → tie.After-give-lines
+lined c = c .before .before .before .before .before .before .before .before .before .before
 
 same-length-5 : tie.Need-same-length-5
-same-length-5 c = ?
+same-length-5 c = let g = lined c in g .give-lines .kept .1 .1 .1 .0 ∙ kept-degrees (d g)
+
+same-length-6 : tie.Need-same-length-6
+same-length-6 c = let g = lined c in g .give-lines .kept .1 .1 .1 .1 .0 ∙ d g .remove-all .kept .1 .1 .1 .0
+
+same-length-7 : tie.Need-same-length-7
+same-length-7 c = kept-order (d (lined c))
+
+same-length-8 : tie.Need-same-length-8
+same-length-8 c = lined c .give-lines .kept .1 .1 .1 .1 .1 .0
+
+same-length-9 : tie.Need-same-length-9
+same-length-9 c = lined c .give-lines .kept .1 .1 .1 .1 .1 .1 .0
+
+same-length-10 : tie.Need-same-length-10
+same-length-10 c = let g = lined c in g .give-lines .kept .1 .1 .1 .1 .1 .1 .1 .0 ∙ d g .remove-all .kept .1 .1 .1 .1 .0
+
+returns-2 : tie.Need-returns-2
+returns-2 c =
+    let g = lined c in
+    let e = g .before .before .before .before .before .before .before in
+    record {
+      isLeft = sym (all (d g) (omega (arith, e .if1 .left, kept-order (d g))) .nothing);
+      lined = λ z. rw (kept-order (d g), kept-degrees (d g)) at (g .give-lines .ensures);
+    }
 
 pub arrange-all-spec : {M : Type 1} → statement M
-arrange-all-spec = ?
+arrange-all-spec =
+    tie.close
+    (tie.spec remove-all-requires sub-result same-length same-length-2 same-length-3 same-length-4 returns give-lines-requires same-length-5 same-length-6 same-length-7 same-length-8 same-length-9 same-length-10 returns-2)
