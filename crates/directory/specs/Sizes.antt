@@ -2,7 +2,7 @@
 use mathlib.Core.Bool.{Bool, _&&_, _||_}
 use Prim.Native.Nat.{ℕ, _+_, _-_, _*_, _/_}
 use lib.Dec.{eqb, ltb, leb}
-use Rattle.graph.specs.Assignment.{blockSize}
+use Rattle.graph.specs.Assignment.{blocks}
 
 abbrev pub mostVertices : ℕ
 mostVertices = 4096
@@ -41,4 +41,4 @@ valueBytes h = (vertexCount h + 3) / 4
 
 -- ceil(m/64), the rank entries, one for each block of 64 vertices
 abbrev pub rankEntries : Header → ℕ
-rankEntries h = (vertexCount h + (blockSize - 1)) / blockSize
+rankEntries h = blocks (vertexCount h)

@@ -1,7 +1,7 @@
 -- The values of the vertices, the landing vertex, the line and the rank entries: document 01, "Assignment and rank". Assumes nothing.
 use mathlib.Core.Bool.{Bool, false, not, _||_, cond}
 use mathlib.Core.List.{List, [], _∷_}
-use Prim.Native.Nat.{ℕ, _+_, _-_, _*_, _%_}
+use Prim.Native.Nat.{ℕ, _+_, _-_, _*_, _/_, _%_}
 use lib.Dec.{eqb}
 use Rattle.counting.specs.Below.{sum, count, lowest}
 use Rattle.graph.specs.Graph.{Graph, names}
@@ -27,6 +27,10 @@ assignedBelow r value y = count y (λ x. assigned r (value x))
 -- a rank entry stands for each block of 64 vertices
 abbrev pub blockSize : ℕ
 blockSize = 64
+
+-- so m vertices have ceil(m/64)
+abbrev pub blocks : ℕ → ℕ
+blocks m = (m + (blockSize - 1)) / blockSize
 
 unfoldable pub rankEntry : ℕ → (ℕ → ℕ) → ℕ → ℕ
 rankEntry r value b = assignedBelow r value (blockSize * b)

@@ -1,6 +1,6 @@
 -- From the end of the peeling to the values, and from these to the lines. Assumes nothing.
 use mathlib.Core.Path.{_≡_, refl, sym, ap, _∙_}
-use mathlib.Core.List.{List}
+use mathlib.Core.List.{List, _++_}
 use Prim.Native.Nat.{ℕ, _+_, _*_, _%_, _≤_, _<_}
 use native.Mathlib.Nat.{mod-lt}
 use native.Mathlib.Omega.{arith}
@@ -13,15 +13,18 @@ use Rattle.counting.specs.BelowLaws.{sum-equal}
 use Rattle.counting.specs.SearchLaws.{lowest-some}
 use Rattle.graph.specs.Graph.{Graph}
 use Rattle.graph.specs.Peeling.{numberLeft}
-use Rattle.graph.specs.Assignment.{assigned, landing, assignedBelow, blockSize, rankEntry, values, landingVertex, line, edgeOfLine}
+use Rattle.graph.specs.Assignment.{assigned, landing, assignedBelow, blockSize, blocks, rankEntry, values, landingVertex, line, edgeOfLine}
 use Rattle.graph.specs.PeelingLaws.{left-and-removed}
 use Rattle.graph.specs.LandingLaws.{landing-inside}
 use Rattle.graph.specs.LineLaws.{line-below, line-own, line-onto}
 use Rattle.peeling.specs.Arrays.{graphIn, vertexAt, Held, Wide, Holds}
+use Rattle.peeling.specs.HoldsLaws.{holds-front}
 use Rattle.peeling.specs.TallyLaws.{held-vertices}
 use Rattle.peeling.specs.Queue.{Peeled}
 use Rattle.peeling.specs.Assigning.{AllRemoved}
 use Rattle.peeling.specs.Ranking.{lineIn, Distinct, Keyed}
+use Rattle.peeling.specs.RankingSteps.{block-start}
+use Rattle.peeling.specs.Arranging.{Arranged}
 
 -- ---- the end of the peeling
 
@@ -63,9 +66,9 @@ module _ {n r m : ℕ} {edges : List ℕ} (held : Held n r m edges) (nothing : n
         apart = λ e f l k i. line-own G (held .proper) nothing e f l k (sym (line-is e l) ∙ i ∙ line-is f k);
       }
 
-  pub ranks-are : (k : ℕ) (R : List ℕ) → ((b : ℕ) → b < k → blockSize * b < m) → Holds k (λ b. getD B (blockSize * b) 0) R → Holds k (rankEntry r (values G)) R
+  pub ranks-are : (R : List ℕ) → Holds (blocks m) (λ b. getD B (blockSize * b) 0) R → Holds (blocks m) (rankEntry r (values G)) R
   unfolding rankEntry
-  ranks-are k R starts h b l = h b l ∙ below-is (blockSize * b) (starts b l)
+  ranks-are R h b l = h b l ∙ below-is (blockSize * b) (block-start m b l)
 
   pub keys-are : (K : List ℕ) → Keyed n r edges W B K → Holds n (edgeOfLine G) K
   unfolding edgeOfLine
@@ -74,3 +77,15 @@ module _ {n r m : ℕ} {edges : List ℕ} (held : Held n r m edges) (nothing : n
       let s = lowest-some n (λ e. eqb (line G e) l) (w .0) (w .1) (eq-eqb _ _ (w .2)) in
       let own : line G (edgeOfLine G l) ≡ l = eqb-true _ _ (s .1) in
       ap (λ i. getD K i 0) (sym own ∙ sym (line-is (edgeOfLine G l) (s .0))) ∙ h (edgeOfLine G l) (s .0)
+
+-- ---- the arrays may be the starts of longer ones
+
+pub arranged-front : {G : Graph} {W R K : List ℕ} {left : ℕ} → Arranged G W R K left → (W′ R′ K′ : List ℕ) → G .vertices ≤ length W → blocks (G .vertices) ≤ length R → G .edges ≤ length K → Arranged G (W ++ W′) (R ++ R′) (K ++ K′) left
+arranged-front {G} {W} {R} {K} a W′ R′ K′ w r k =
+    record {
+      isLeft = a .isLeft;
+      lined =
+          λ z.
+          let l = a .lined z in
+          record { ofValues = holds-front _ _ W W′ w (l .ofValues); ofRank = holds-front _ _ R R′ r (l .ofRank); ofKeys = holds-front _ _ K K′ k (l .ofKeys) };
+    }

@@ -1,10 +1,10 @@
--- An array that is written from its start on, entry by entry. Assumes nothing.
+-- An array that is written from its start on, entry by entry, or that stands at the start of a longer one. Assumes nothing.
 use mathlib.Core.Path.{_≡_, sym, ap, _∙_}
 use mathlib.Core.Logic.{⊎-elim, _≢_}
-use mathlib.Core.List.{List}
-use Prim.Native.Nat.{ℕ, _+_, _<_}
+use mathlib.Core.List.{List, _++_}
+use Prim.Native.Nat.{ℕ, _+_, _≤_, _<_}
 use native.Mathlib.Omega.{arith}
-use lib.ListN.{length, getD, set}
+use lib.ListN.{length, getD, set, List·getD-append}
 use lib.Seq.{getD-set-same, getD-set-other}
 use Rattle.counting.specs.TestLaws.{eq?}
 use Rattle.peeling.specs.Arrays.{Holds}
@@ -18,3 +18,6 @@ holds-more k f array a h l t i m =
     (λ (e : i ≡ k). ap (λ x. getD (set array k a) x 0) e ∙ getD-set-same array k a 0 l ∙ t ∙ ap f (sym e))
     (λ (d : i ≢ k). getD-set-other array k i a 0 d ∙ h i (omega arith))
     (eq? i k)
+
+pub holds-front : (k : ℕ) (f : ℕ → ℕ) (array rest : List ℕ) → k ≤ length array → Holds k f array → Holds k f (array ++ rest)
+holds-front k f array rest l h i m = List·getD-append array rest 0 i (omega arith) ∙ h i m

@@ -2,7 +2,7 @@
 use mathlib.Core.Path.{_≡_, _∙_}
 use mathlib.Core.Logic.{_≢_}
 use mathlib.Core.List.{List}
-use Prim.Native.Nat.{ℕ, _+_, _%_, _≤_, _<_}
+use Prim.Native.Nat.{ℕ, _+_, _*_, _%_, _≤_, _<_}
 use native.Mathlib.Nat.{mod-lt}
 use native.Mathlib.Numerals.{add-one}
 use native.Mathlib.Omega.{arith}
@@ -12,7 +12,7 @@ use borrow.Author.Count.{below-more}
 use borrow.Author.Tests.{eq-eqb, ne-eqb}
 use Rattle.counting.specs.Below.{sum}
 use Rattle.counting.specs.CountLaws.{count-most}
-use Rattle.graph.specs.Assignment.{assigned, landing, assignedBelow}
+use Rattle.graph.specs.Assignment.{assigned, landing, assignedBelow, blockSize, blocks}
 use Rattle.peeling.specs.Arrays.{vertexAt}
 use Rattle.peeling.specs.Ranking.{lineIn, Distinct, Keyed}
 
@@ -30,6 +30,11 @@ module _ (r : ℕ) (value : ℕ → ℕ) (y : ℕ) where
   pub unassigned-counts-not : value y ≡ r → assignedBelow r value (y + 1) ≡ assignedBelow r value y
   unfolding assignedBelow sum
   unassigned-counts-not i = rw (add-one y, eq-eqb (value y) r i) (omega arith)
+
+-- ---- a block starts below the number of vertices
+
+pub block-start : (m b : ℕ) → b < blocks m → blockSize * b < m
+block-start m b l = omega arith
 
 -- ---- one edge more gets its place: x is its landing vertex
 

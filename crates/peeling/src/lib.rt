@@ -8,18 +8,19 @@ mod ranking; // ranking.rt: rank entries, and the order of the edges by line
 use crate::assigning::assign;
 use crate::queue::first_queue;
 use crate::queue::peel;
+use crate::ranking::BLOCK;
 use crate::ranking::count_assigned;
 use crate::ranking::key_order;
 use crate::ranking::rank_entries;
 use crate::tally::tally;
 ghost use mathlib.Core.Path.{_≡_};
-ghost use Prim.Native.Nat.{ℕ, _*_, _<_};
+ghost use Prim.Native.Nat.{_*_};
 ghost use lib.ListN.{length};
-ghost use Rattle.graph.specs.Assignment.{blockSize};
+ghost use Rattle.graph.specs.Assignment.{blocks};
 ghost use Rattle.peeling.specs.Arrays.{Held, graphIn};
 ghost use Rattle.peeling.specs.Queue.{Peeled};
 ghost use Rattle.peeling.specs.Assigning.{AllRemoved};
-ghost use Rattle.peeling.specs.Arranging.{Lent, Lined, Arranged};
+ghost use Rattle.peeling.specs.Arranging.{Room, Lent, Lined, Arranged};
 
 // Peels all edges that can be removed, and returns how many were: they stand in order, first removed first. `queued` is written.
 fn remove_all(
@@ -51,9 +52,8 @@ fn give_lines(
     keys: &mut [u16],
 )
     requires removed { ⌜ AllRemoved (length (now order)) r (length (now degrees)) (now edges) (now order) (now degrees) (now sums) (now values) ⌝ }
-    requires blocks { ⌜ ((b : ℕ) → b < length (now rank) → blockSize * b < length (now degrees)) ⌝ }
-    requires even { ⌜ length (now keys) ≡ length (now order) ⌝ }
-    ensures { λ _. ⌜ Lined (graphIn (length (now (order .entry))) r (length (now (degrees .entry))) (now (edges .entry))) (length (now (rank .entry))) (now (values .exit)) (now (rank .exit)) (now (keys .exit)) ⌝ }
+    requires even { ⌜ (length (now rank) ≡ blocks (length (now degrees))) × (length (now keys) ≡ length (now order)) ⌝ }
+    ensures { λ _. ⌜ Lined (graphIn (length (now (order .entry))) r (length (now (degrees .entry))) (now (edges .entry))) (now (values .exit)) (now (rank .exit)) (now (keys .exit)) ⌝ }
 {
     assign(r, edges, order, degrees, sums, values);
     count_assigned(r, values, degrees);
@@ -73,7 +73,7 @@ fn arrange_all(
     keys: &mut [u16],
 ) -> usize
     requires { ⌜ Lent (length (now order)) r (length (now degrees)) (now edges) (now sums) (now values) (now rank) (now keys) ⌝ }
-    ensures { λ left. ⌜ Arranged (graphIn (length (now (order .entry))) r (length (now (degrees .entry))) (now (edges .entry))) (length (now (rank .entry))) (now (values .exit)) (now (rank .exit)) (now (keys .exit)) left ⌝ }
+    ensures { λ left. ⌜ Arranged (graphIn (length (now (order .entry))) r (length (now (degrees .entry))) (now (edges .entry))) (now (values .exit)) (now (rank .exit)) (now (keys .exit)) left ⌝ }
 {
     let removed = remove_all(r, edges, degrees, sums, keys, order);
     if removed < order.len() {
@@ -81,4 +81,35 @@ fn arrange_all(
     }
     give_lines(r, edges, order, degrees, sums, values, rank, keys);
     0
+}
+
+// The whole sequence for n edges of r vertices, v to a part; the arrays may be longer than needed. Returns the number of edges left over; where none is, the values, the rank entries and the edges in the order of their lines stand at the starts of their arrays.
+pub fn arrange(
+    n: usize,
+    r: usize,
+    v: usize,
+    edges: &[u16],
+    degrees: &mut [u16],
+    sums: &mut [u32],
+    order: &mut [u16],
+    values: &mut [u8],
+    rank: &mut [u16],
+    keys: &mut [u16],
+) -> usize
+    requires held { ⌜ Held n r (r * v) (now edges) ⌝ }
+    requires room { ⌜ Room n (r * v) (now degrees) (now sums) (now order) (now values) (now rank) (now keys) ⌝ }
+    ensures { λ left. ⌜ Arranged (graphIn n r (r * v) (now (edges .entry))) (now (values .exit)) (now (rank .exit)) (now (keys .exit)) left ⌝ }
+{
+    let m = r * v;
+    let blocks = (m + (BLOCK - 1)) / BLOCK;
+    arrange_all(
+        r,
+        edges,
+        &mut degrees[..m],
+        &mut sums[..m],
+        &mut order[..n],
+        &mut values[..m],
+        &mut rank[..blocks],
+        &mut keys[..n],
+    )
 }

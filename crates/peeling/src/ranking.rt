@@ -2,14 +2,14 @@
 use crate::edges::value_sum;
 use crate::edges::vertex;
 ghost use mathlib.Core.Path.{_≡_};
-ghost use Prim.Native.Nat.{ℕ, _*_, _<_};
+ghost use Prim.Native.Nat.{_*_, _<_};
 ghost use lib.ListN.{length, getD};
-ghost use Rattle.graph.specs.Assignment.{assignedBelow, blockSize};
+ghost use Rattle.graph.specs.Assignment.{assignedBelow, blockSize, blocks};
 ghost use Rattle.peeling.specs.Arrays.{twoBytes, Holds};
 ghost use Rattle.peeling.specs.Ranking.{Distinct, Keyed};
 
 // Where the blocks of vertices are this long, each has a rank entry.
-const BLOCK: usize = 64;
+pub const BLOCK: usize = 64;
 
 // For each vertex the number of assigned vertices below it.
 pub fn count_assigned(r: usize, values: &[u8], below: &mut [u16])
@@ -30,7 +30,7 @@ pub fn count_assigned(r: usize, values: &[u8], below: &mut [u16])
 
 // The rank entry of each block: what stands below its first vertex.
 pub fn rank_entries(below: &[u16], rank: &mut [u16])
-    requires { ⌜ ((b : ℕ) → b < length (now rank) → blockSize * b < length (now below)) ⌝ }
+    requires { ⌜ length (now rank) ≡ blocks (length (now below)) ⌝ }
     ensures { λ _. ⌜ Holds (length (now (rank .entry))) (λ b. getD (now (below .entry)) (blockSize * b) 0) (now (rank .exit)) ⌝ }
 {
     let mut b = 0;

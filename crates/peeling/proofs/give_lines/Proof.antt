@@ -83,7 +83,7 @@ returns c =
     let v = assigned k .assign .ensures in
     record {
       ofValues = v;
-      ofRank = ranks-are (p .0 .held) (p .0 .nothing) (W k) (B k) v (counted k) _ (e .rank-entries .last .1 .0) (p .1 .0) (e .rank-entries .ensures);
+      ofRank = ranks-are (p .0 .held) (p .0 .nothing) (W k) (B k) v (counted k) (e .rank-entries .last .1 .0) (rw (p .1 .0) at (e .rank-entries .ensures));
       ofKeys = keys-are (p .0 .held) (p .0 .nothing) (W k) (B k) v (counted k) (y .key-order .last .1 .1 .1 .1 .0) (rw (p .1 .1) at (y .key-order .ensures));
     }
 

@@ -6,6 +6,7 @@ use lib.ListN.{length, getD, length-set}
 use Rattle.graph.specs.Assignment.{blockSize}
 use Rattle.peeling.specs.Arrays.{Holds}
 use Rattle.peeling.specs.HoldsLaws.{holds-none, holds-more}
+use Rattle.peeling.specs.RankingSteps.{block-start}
 use Rattle.peeling.proofs.ranking.rank_entries.Statement.{statement}
 use Rattle.peeling.proofs.ranking.rank_entries.Tie as tie
 
@@ -17,7 +18,7 @@ abbrev μ-loop : tie.MeasureT-loop
 
 -- the first vertex of the block has an entry
 first : (c : tie.In-loop Inv-loop μ-loop) → blockSize * c .before .loop .b < length (c .before .before .args .below .now)
-first c = c .before .before .pre (c .before .loop .b) (omega arith)
+first c = block-start _ (c .before .loop .b) (omega arith)
 
 loop-holds : tie.Need-loop-holds Inv-loop μ-loop
 loop-holds c = (omega arith, refl, holds-none _ (c .args .rank .now))
