@@ -17,10 +17,10 @@ use Rattle.graph.specs.Assignment.{assigned, landing, assignedBelow, blockSize,
 use Rattle.graph.specs.PeelingLaws.{left-and-removed}
 use Rattle.graph.specs.LandingLaws.{landing-inside}
 use Rattle.graph.specs.LineLaws.{line-below, line-own, line-onto}
-use Rattle.peeling.specs.Arrays.{graphIn, vertexAt, Held, Wide, Holds}
-use Rattle.peeling.specs.HoldsLaws.{holds-front}
-use Rattle.peeling.specs.TallyLaws.{held-vertices}
-use Rattle.peeling.specs.Queue.{Peeled}
+use Rattle.removal.specs.Arrays.{graphIn, vertexAt, Held, Wide, Holds}
+use Rattle.removal.specs.HoldsLaws.{holds-front}
+use Rattle.removal.specs.TallyLaws.{held-vertices}
+use Rattle.removal.specs.Queue.{Peeled}
 use Rattle.peeling.specs.Assigning.{AllRemoved}
 use Rattle.peeling.specs.Ranking.{lineIn, Distinct, Keyed}
 use Rattle.peeling.specs.RankingSteps.{block-start}

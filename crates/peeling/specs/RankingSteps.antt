@@ -13,7 +13,7 @@ use borrow.Author.Tests.{eq-eqb, ne-eqb}
 use Rattle.counting.specs.Below.{sum}
 use Rattle.counting.specs.CountLaws.{count-most}
 use Rattle.graph.specs.Assignment.{assigned, landing, assignedBelow, blockSize, blocks}
-use Rattle.peeling.specs.Arrays.{vertexAt}
+use Rattle.removal.specs.Arrays.{vertexAt}
 use Rattle.peeling.specs.Ranking.{lineIn, Distinct, Keyed}
 
 -- ---- one vertex more is looked at

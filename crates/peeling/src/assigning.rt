@@ -1,13 +1,13 @@
 // The values, from the end of the removal list to its start. Each edge that has its value is put back on its vertices, so that a vertex is visited where its degree is not 0.
-use crate::edges::value_sum;
-use crate::edges::vertex;
-use crate::tally::first_of_degree;
-use crate::tally::link;
+use removal::edges::vertex;
+use removal::tally::first_of_degree;
+use removal::tally::link;
 ghost use mathlib.Core.Path.{_≡_};
 ghost use Prim.Native.Nat.{_<_};
-ghost use lib.ListN.{length};
+ghost use lib.ListN.{length, getD};
+ghost use Rattle.counting.specs.Below.{sum};
 ghost use Rattle.graph.specs.Assignment.{values as valuesOf};
-ghost use Rattle.peeling.specs.Arrays.{oneByte, graphIn, Holds};
+ghost use Rattle.removal.specs.Arrays.{oneByte, vertexAt, graphIn, Vertices, Holds};
 ghost use Rattle.peeling.specs.Assigning.{Free, Given, AllRemoved};
 
 // No vertex is assigned.
@@ -20,6 +20,21 @@ fn unassign(r: usize, values: &mut [u8])
         values[x] = r as u8;
         x += 1;
     }
+}
+
+// The sum of the values of the vertices of edge e.
+pub fn value_sum(r: usize, e: usize, edges: &[u16], values: &[u8]) -> usize
+    requires { ⌜ (r < oneByte) × Vertices r e (now edges) (length (now values)) ⌝ }
+    ensures { λ s. ⌜ s ≡ sum r (λ j. getD (now (values .entry)) (vertexAt r (now (edges .entry)) e j) 0) ⌝ }
+{
+    let mut s = 0;
+    let mut j = 0;
+    while j < r {
+        let x = vertex(r, e, j, edges);
+        s += values[x] as usize;
+        j += 1;
+    }
+    s
 }
 
 // Edge e gives its lowest unvisited vertex the value with which it lands there, and is put back.

@@ -1,44 +1,20 @@
 // Peeling, assignment and rank over arrays that the caller lends: from the vertices of the edges to the number left, the values, the rank entries and the order of the edges by line.
-mod edges; // edges.rt: the vertices of an edge, and their values
-mod tally; // tally.rt: degrees and index sums
-mod queue; // queue.rt: the first queue, and the peeling
 mod assigning; // assigning.rt: the values
 mod ranking; // ranking.rt: rank entries, and the order of the edges by line
 
 use crate::assigning::assign;
-use crate::queue::first_queue;
-use crate::queue::peel;
 use crate::ranking::BLOCK;
 use crate::ranking::count_assigned;
 use crate::ranking::key_order;
 use crate::ranking::rank_entries;
-use crate::tally::tally;
+use removal::remove_all;
 ghost use mathlib.Core.Path.{_≡_};
 ghost use Prim.Native.Nat.{_*_};
 ghost use lib.ListN.{length};
 ghost use Rattle.graph.specs.Assignment.{blocks};
-ghost use Rattle.peeling.specs.Arrays.{Held, graphIn};
-ghost use Rattle.peeling.specs.Queue.{Peeled};
+ghost use Rattle.removal.specs.Arrays.{Held, graphIn};
 ghost use Rattle.peeling.specs.Assigning.{AllRemoved};
 ghost use Rattle.peeling.specs.Arranging.{Room, Lent, Lined, Arranged};
-
-// Peels all edges that can be removed, and returns how many were: they stand in order, first removed first. `queued` is written.
-fn remove_all(
-    r: usize,
-    edges: &[u16],
-    degrees: &mut [u16],
-    sums: &mut [u32],
-    queued: &mut [u16],
-    order: &mut [u16],
-) -> usize
-    requires held { ⌜ Held (length (now order)) r (length (now degrees)) (now edges) ⌝ }
-    requires even { ⌜ (length (now sums) ≡ length (now degrees)) × (length (now queued) ≡ length (now order)) ⌝ }
-    ensures { λ removed. ⌜ Peeled (graphIn (length (now (order .entry))) r (length (now (degrees .entry))) (now (edges .entry))) (now (degrees .exit)) (now (sums .exit)) (now (order .exit)) removed ⌝ }
-{
-    tally(order.len(), r, edges, degrees, sums);
-    let tail = first_queue(r, edges, degrees, queued, order);
-    peel(r, tail, edges, degrees, sums, queued, order)
-}
 
 // Gives each edge its line, where all are removed and stand in order, first removed first: the values, the rank entries and the edges in the order of their lines.
 fn give_lines(

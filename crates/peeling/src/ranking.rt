@@ -1,11 +1,11 @@
 // From the values to the rank entries and to the order of the edges by line.
-use crate::edges::value_sum;
-use crate::edges::vertex;
+use crate::assigning::value_sum;
+use removal::edges::vertex;
 ghost use mathlib.Core.Path.{_≡_};
 ghost use Prim.Native.Nat.{_*_, _<_};
 ghost use lib.ListN.{length, getD};
 ghost use Rattle.graph.specs.Assignment.{assignedBelow, blockSize, blocks};
-ghost use Rattle.peeling.specs.Arrays.{twoBytes, Holds};
+ghost use Rattle.removal.specs.Arrays.{twoBytes, Holds};
 ghost use Rattle.peeling.specs.Ranking.{Distinct, Keyed};
 
 // Where the blocks of vertices are this long, each has a rank entry.

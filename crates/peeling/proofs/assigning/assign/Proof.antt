@@ -4,7 +4,7 @@ use Prim.Native.Nat.{ℕ, _+_, _-_, _≤_, _<_}
 use native.Mathlib.Omega.{arith}
 use lib.ListN.{length, getD}
 use Rattle.graph.specs.Peeling.{removalList}
-use Rattle.peeling.specs.Arrays.{graphIn}
+use Rattle.removal.specs.Arrays.{graphIn}
 use Rattle.peeling.specs.Assigning.{Free, Given}
 use Rattle.peeling.specs.AssigningSteps.{Back, back-none, back-free, back-more, back-all}
 use Rattle.peeling.proofs.assigning.assign.Statement.{statement}

@@ -4,8 +4,8 @@ use Prim.Native.Nat.{_-_, _≤_}
 use native.Mathlib.Omega.{arith}
 use borrow.Author.Needs.{needs}
 use lib.ListN.{length, length-set}
-use Rattle.peeling.specs.Arrays.{Holds}
-use Rattle.peeling.specs.HoldsLaws.{holds-none, holds-more}
+use Rattle.removal.specs.Arrays.{Holds}
+use Rattle.removal.specs.HoldsLaws.{holds-none, holds-more}
 use Rattle.peeling.proofs.assigning.unassign.Statement.{statement}
 use Rattle.peeling.proofs.assigning.unassign.Tie as tie
 

@@ -4,7 +4,7 @@ use Prim.Native.Nat.{_-_, _≤_, _<_}
 use native.Mathlib.Nat.{mod-lt}
 use native.Mathlib.Omega.{arith}
 use lib.ListN.{length, length-set}
-use Rattle.peeling.specs.Arrays.{Vertices}
+use Rattle.removal.specs.Arrays.{Vertices}
 use Rattle.peeling.specs.Ranking.{Keyed}
 use Rattle.peeling.specs.RankingSteps.{KeyTurn, key-turn}
 use Rattle.peeling.proofs.ranking.key_order.Statement.{statement}

@@ -1,0 +1,96 @@
+// The waiting queue and the removal list in one array: the removed edges stand before `head`, those that wait from there up to `tail`.
+use crate::edges::vertex;
+use crate::tally::first_of_degree;
+use crate::tally::unlink;
+ghost use mathlib.Core.Path.{_≡_};
+ghost use mathlib.Core.List.{[]};
+ghost use Prim.Native.Nat.{_-_};
+ghost use lib.ListN.{length, getD};
+ghost use Rattle.graph.specs.Peeling.{degree, firstWaiting, followAll};
+ghost use Rattle.removal.specs.Arrays.{Held, graphIn, Holds};
+ghost use Rattle.removal.specs.Queue.{Ready, Queued, Bounds, Starts, Peeled, removedOf, waitingOf};
+
+// The first queue: every edge, in list order, that has a vertex of degree 1. Returns its length, and marks the edges in it.
+pub fn first_queue(
+    r: usize,
+    edges: &[u16],
+    degrees: &[u16],
+    queued: &mut [u16],
+    order: &mut [u16],
+) -> usize
+    requires held { ⌜ Held (length (now order)) r (length (now degrees)) (now edges) ⌝ }
+    requires even { ⌜ length (now queued) ≡ length (now order) ⌝ }
+    requires counted { ⌜ Holds (length (now degrees)) (degree (graphIn (length (now order)) r (length (now degrees)) (now edges)) []) (now degrees) ⌝ }
+    ensures { λ t. ⌜ Queued (length (now (order .entry))) [] (firstWaiting (graphIn (length (now (order .entry))) r (length (now (degrees .entry))) (now (edges .entry)))) (now (queued .exit)) (now (order .exit)) t ⌝ }
+{
+    let mut t = 0;
+    let mut e = 0;
+    while e < order.len() {
+        if first_of_degree(1, r, e, edges, degrees) < r {
+            queued[e] = 1;
+            order[t] = e as u16;
+            t += 1;
+        } else {
+            queued[e] = 0;
+        }
+        e += 1;
+    }
+    t
+}
+
+// Edge order[head - 1] was removed last: each of its vertices that has degree 1 now lets its one edge join. Returns the new end of the queue.
+fn enqueue(
+    r: usize,
+    head: usize,
+    tail: usize,
+    edges: &[u16],
+    degrees: &[u16],
+    sums: &[u32],
+    queued: &mut [u16],
+    order: &mut [u16],
+) -> usize
+    requires bounds { ⌜ Bounds (length (now order)) head tail ⌝ }
+    requires ready { ⌜ Ready (length (now order)) r (length (now degrees)) (now edges) (now degrees) (now sums) (now queued) (now order) (removedOf (now order) head) (waitingOf (now order) head tail) ⌝ }
+    ensures { λ t. ⌜ Queued (length (now (order .entry))) (removedOf (now (order .entry)) head) (followAll (graphIn (length (now (order .entry))) r (length (now (degrees .entry))) (now (edges .entry))) (removedOf (now (order .entry)) head) (getD (now (order .entry)) (head - 1) 0) r (waitingOf (now (order .entry)) head tail)) (now (queued .exit)) (now (order .exit)) t ⌝ }
+{
+    let e = order[head - 1] as usize;
+    let mut t = tail;
+    let mut j = 0;
+    while j < r {
+        let x = vertex(r, e, j, edges);
+        if degrees[x] == 1 {
+            let f = sums[x] as usize;
+            if queued[f] == 0 {
+                queued[f] = 1;
+                order[t] = f as u16;
+                t += 1;
+            }
+        }
+        j += 1;
+    }
+    t
+}
+
+// Peels from the first queue, order[..tail], and returns how many edges were removed: they stand in order, first removed first.
+pub fn peel(
+    r: usize,
+    tail: usize,
+    edges: &[u16],
+    degrees: &mut [u16],
+    sums: &mut [u32],
+    queued: &mut [u16],
+    order: &mut [u16],
+) -> usize
+    requires { ⌜ Starts (length (now order)) r (length (now degrees)) (now edges) (now degrees) (now sums) (now queued) (now order) tail ⌝ }
+    ensures { λ removed. ⌜ Peeled (graphIn (length (now (order .entry))) r (length (now (degrees .entry))) (now (edges .entry))) (now (degrees .exit)) (now (sums .exit)) (now (order .exit)) removed ⌝ }
+{
+    let mut head = 0;
+    let mut t = tail;
+    while head < t {
+        let e = order[head] as usize;
+        unlink(r, e, edges, degrees, sums);
+        head += 1;
+        t = enqueue(r, head, t, edges, degrees, sums, queued, order);
+    }
+    head
+}
