@@ -69,9 +69,10 @@ pub fn assign(
     ensures { λ _. ⌜ Holds (length (now (degrees .entry))) (valuesOf (graphIn (length (now (order .entry))) r (length (now (degrees .entry))) (now (edges .entry)))) (now (values .exit)) ⌝ }
 {
     unassign(r, values);
-    let mut k = order.len();
-    while 0 < k {
-        k -= 1;
-        assign_edge(r, order[k] as usize, edges, degrees, sums, values);
+    let n = order.len();
+    let mut done = 0;
+    while done < n {
+        done += 1;
+        assign_edge(r, order[n - done] as usize, edges, degrees, sums, values);
     }
 }

@@ -1,4 +1,4 @@
--- `peeling::assigning::assign` meets its contract. The invariant: the edges after the first k have their values and are back on their vertices. The measure is k. Assumes nothing.
+-- `peeling::assigning::assign` meets its contract. The invariant: the last `done` edges of the removal list have their values and are back on their vertices. The measure is the number of the others. Assumes nothing.
 use mathlib.Core.Path.{_≡_, refl, sym, ap, _∙_}
 use Prim.Native.Nat.{ℕ, _+_, _-_, _≤_, _<_}
 use native.Mathlib.Omega.{arith}
@@ -11,24 +11,24 @@ use Rattle.peeling.proofs.assigning.assign.Statement.{statement}
 use Rattle.peeling.proofs.assigning.assign.Tie as tie
 
 abbrev Inv-loop : tie.InvT-loop
-Inv-loop r edges order degrees₀ sums₀ values₀ k₀ degrees sums values k = (k ≤ length order) × Back (length order) r (length degrees₀) edges degrees sums values k
+Inv-loop r edges order degrees₀ sums₀ values₀ n done₀ degrees sums values done = (n ≡ length order) × (done ≤ n) × Back (length order) r (length degrees₀) edges degrees sums values (n - done)
 
 abbrev μ-loop : tie.MeasureT-loop
-μ-loop r edges order degrees₀ sums₀ values₀ k₀ degrees sums values k = k
+μ-loop r edges order degrees₀ sums₀ values₀ n done₀ degrees sums values done = n - done
 
 abbrev start : tie.After-unassign Inv-loop μ-loop → tie.Start Inv-loop μ-loop
 start c = c .before .before .before .before .before .before .before
 
--- in a turn: edge number k - 1 of the removal list
+-- in a turn: edge number k of the removal list
 module _ (c : tie.In-loop Inv-loop μ-loop) where
   abbrev s : tie.Start Inv-loop μ-loop
   s = start (c .before .before .before .before)
 
-  abbrev k : ℕ
-  k = c .before .loop .k - 1
-
   abbrev n : ℕ
   n = length (s .args .order .now)
+
+  abbrev k : ℕ
+  k = n - (c .before .loop .done + 1)
 
   abbrev m : ℕ
   m = length (s .args .degrees .now)
@@ -37,10 +37,10 @@ module _ (c : tie.In-loop Inv-loop μ-loop) where
   e = getD (s .args .order .now) k 0
 
   k-below : k < n
-  k-below = omega (arith, c .before .loop .inv .0, c .loop-test .taken)
+  k-below = omega (arith, c .loop-test .taken)
 
   back : Back n (s .args .r) m (s .args .edges .now) (c .before .loop .degrees) (c .before .loop .sums) (c .before .loop .values) (k + 1)
-  back = let i : k + 1 ≡ c .before .loop .k = omega (arith, c .loop-test .taken) in rw i (c .before .loop .inv .1)
+  back = let i : k + 1 ≡ n - c .before .loop .done = omega (arith, c .loop-test .taken) in rw i (c .before .loop .inv .2)
 
   e-is : e ≡ getD (removalList (graphIn n (s .args .r) m (s .args .edges .now))) k 0
   e-is = ap (λ l. getD l k 0) (s .pre .list)
@@ -55,10 +55,14 @@ loop-holds : tie.Need-loop-holds Inv-loop μ-loop
 loop-holds c =
     let u = c .before .before in
     let p = start u .pre in
-    (omega arith, back-none p (u .unassign .last .1 .0) (u .unassign .kept .1 .0 ∙ p .forValues) (rw (sym (p .forValues)) (u .unassign .ensures)))
+    let all : length (start u .args .order .now) - 0 ≡ length (start u .args .order .now) = omega arith in
+    (refl, omega arith, rw all (back-none p (u .unassign .last .1 .0) (u .unassign .kept .1 .0 ∙ p .forValues) (rw (sym (p .forValues)) (u .unassign .ensures))))
 
-sub-k : tie.Need-sub-k Inv-loop μ-loop
-sub-k c = omega arith
+add-done : tie.Need-add-done Inv-loop μ-loop
+add-done c = omega arith
+
+sub-assign-edge : tie.Need-sub-assign-edge Inv-loop μ-loop
+sub-assign-edge c = omega arith
 
 mul-assign-edge : tie.Need-mul-assign-edge Inv-loop μ-loop
 mul-assign-edge c = omega (arith, k-below c)
@@ -80,24 +84,25 @@ loop-again c =
     let a = c .before .before .before .before .before .before in
     let l = a .before .before .before .before .before in
     let w = back l .wide in (
-      omega (arith, k-below l),
+      refl,
+      omega arith,
       back-more (s l .pre .held) (s l .pre .nothing) (k l) (k-below l) (back l) (rw (e-is l) at (a .assign-edge .ensures))
           (record { forDegrees = a .assign-edge .kept .1 .1 .1 .0 ∙ w .forDegrees; forSums = a .assign-edge .kept .1 .1 .1 .1 .0 ∙ w .forSums }),
     )
 
 same-length : tie.Need-same-length Inv-loop μ-loop
-same-length c = c .before .loop .inv .1 .wide .forDegrees
+same-length c = c .before .loop .inv .2 .wide .forDegrees
 
 same-length-2 : tie.Need-same-length-2 Inv-loop μ-loop
-same-length-2 c = c .before .loop .inv .1 .wide .forSums ∙ sym (start (c .before .before .before .before) .pre .wide .forSums)
+same-length-2 c = c .before .loop .inv .2 .wide .forSums ∙ sym (start (c .before .before .before .before) .pre .wide .forSums)
 
 same-length-3 : tie.Need-same-length-3 Inv-loop μ-loop
-same-length-3 c = c .before .loop .inv .1 .forValues ∙ sym (start (c .before .before .before .before) .pre .forValues)
+same-length-3 c = c .before .loop .inv .2 .forValues ∙ sym (start (c .before .before .before .before) .pre .forValues)
 
 returns : tie.Need-returns Inv-loop μ-loop
-returns c = let z : c .before .loop .k ≡ 0 = omega arith in back-all (rw z at (c .before .loop .inv .1))
+returns c = let z : length (start (c .before .before .before .before) .args .order .now) - c .before .loop .done ≡ 0 = omega arith in back-all (rw z at (c .before .loop .inv .2))
 
 pub assign-spec : {M : Type 1} → statement M
 assign-spec =
     tie.close
-    (tie.spec Inv-loop μ-loop unassign-requires loop-holds sub-k mul-assign-edge shared-slice-read-assign-edge cast-assign-edge assign-edge-requires loop-less loop-again same-length same-length-2 same-length-3 returns)
+    (tie.spec Inv-loop μ-loop unassign-requires loop-holds add-done sub-assign-edge mul-assign-edge shared-slice-read-assign-edge cast-assign-edge assign-edge-requires loop-less loop-again same-length same-length-2 same-length-3 returns)
