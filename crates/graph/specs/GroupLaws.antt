@@ -25,7 +25,7 @@ module _ (G : Graph) where
   -- an edge left over has no vertex of degree 1, or it would be waiting
   pub left-group : 1 ≤ numberLeft G → Group G (leftOver G)
   unfolding numberLeft leftOver occurrences
-  left-group h = record { notEmpty = h; namedTwice = twice }
+  left-group h = record { notEmpty = omega arith; namedTwice = λ e j l m t. omega (arith, twice e j l m t) }
     where
       twice : (e j : ℕ) → e < edges → j < arity → leftOver G e ≡ true → 2 ≤ degreeIn G (leftOver G) (vertexOf e j)
       twice e j l m t =

@@ -48,6 +48,9 @@ module _ (c : tie.In-loop Inv-loop μ-loop) where
   free : Free (s .args .r) e (s .args .edges .now) (c .before .loop .degrees) (c .before .loop .sums) (c .before .loop .values)
   free = rw e-is (back-free (s .pre .held) (s .pre .nothing) k k-below back)
 
+assign-edge-requires : tie.Need-assign-edge-requires Inv-loop μ-loop
+assign-edge-requires c κs = free (c .before .before .before .before)
+
 unassign-requires : tie.Need-unassign-requires Inv-loop μ-loop
 unassign-requires c κs = c .before .before .before .before .before .before .pre .held .smallArity
 
@@ -65,16 +68,13 @@ sub-assign-edge : tie.Need-sub-assign-edge Inv-loop μ-loop
 sub-assign-edge c = omega arith
 
 mul-assign-edge : tie.Need-mul-assign-edge Inv-loop μ-loop
-mul-assign-edge c = omega (arith, k-below c)
+mul-assign-edge c = omega arith
 
 shared-slice-read-assign-edge : tie.Need-shared-slice-read-assign-edge Inv-loop μ-loop
-shared-slice-read-assign-edge c = k-below (c .before)
+shared-slice-read-assign-edge c = omega arith
 
 cast-assign-edge : tie.Need-cast-assign-edge Inv-loop μ-loop
 cast-assign-edge c = omega (arith, free (c .before) .room .edge)
-
-assign-edge-requires : tie.Need-assign-edge-requires Inv-loop μ-loop
-assign-edge-requires c κs = free (c .before .before .before .before)
 
 loop-less : tie.Need-loop-less Inv-loop μ-loop
 loop-less c = omega arith

@@ -30,7 +30,7 @@ mul-rank-2 : tie.Need-mul-rank-2 Inv-loop μ-loop
 mul-rank-2 c = omega (arith, first c)
 
 shared-slice-read-rank : tie.Need-shared-slice-read-rank Inv-loop μ-loop
-shared-slice-read-rank c = first (c .before)
+shared-slice-read-rank c = omega (arith, first (c .before))
 
 mul-rank-3 : tie.Need-mul-rank-3 Inv-loop μ-loop
 mul-rank-3 c = omega arith
