@@ -1,6 +1,6 @@
 -- The sizes that document 01 allows: its table "Sizes", and what they come to in a file. Assumes nothing.
 use mathlib.Core.Bool.{Bool, _&&_, _||_}
-use Prim.Native.Nat.{ℕ, _+_, _-_, _*_, _/_}
+use Prim.Native.Nat.{ℕ, _+_, _*_, _/_}
 use lib.Dec.{eqb, ltb, leb}
 use Rattle.graph.specs.Assignment.{blocks}
 

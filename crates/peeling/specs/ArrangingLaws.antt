@@ -1,14 +1,13 @@
 -- From the end of the peeling to the values, and from these to the lines. Assumes nothing.
-use mathlib.Core.Path.{_≡_, refl, sym, ap, _∙_}
+use mathlib.Core.Path.{_≡_, sym, ap, _∙_}
 use mathlib.Core.List.{List, _++_}
 use Prim.Native.Nat.{ℕ, _+_, _*_, _%_, _≤_, _<_}
-use native.Mathlib.Nat.{mod-lt}
 use native.Mathlib.Omega.{arith}
 use lib.Dec.{eqb}
 use lib.ListN.{length, getD, take}
 use lib.Seq.{take-all, length-take-le}
 use borrow.Author.Tests.{eqb-true, eq-eqb}
-use Rattle.counting.specs.Below.{sum, bit, lowest}
+use Rattle.counting.specs.Below.{bit}
 use Rattle.counting.specs.BelowLaws.{sum-equal}
 use Rattle.counting.specs.SearchLaws.{lowest-some}
 use Rattle.graph.specs.Graph.{Graph}

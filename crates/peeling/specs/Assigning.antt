@@ -1,7 +1,7 @@
 -- Assignment over the arrays: what an edge needs to get its value, and what the arrays have afterwards. Assumes nothing.
 use mathlib.Core.Path.{_≡_}
 use mathlib.Core.List.{List}
-use Prim.Native.Nat.{ℕ, _≤_, _<_}
+use Prim.Native.Nat.{ℕ, _<_}
 use lib.Dec.{eqb}
 use lib.ListN.{length, getD, set}
 use Rattle.counting.specs.Below.{sum, lowest}

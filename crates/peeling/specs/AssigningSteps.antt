@@ -1,23 +1,21 @@
 -- One turn of the assignment, over the arrays: from the edges after the first k to those after one less. Assumes nothing.
-use mathlib.Core.Path.{_≡_, refl, sym, ap, _∙_}
+use mathlib.Core.Path.{_≡_, sym, ap, _∙_}
 use mathlib.Core.Logic.{⊎-elim, _≢_}
 use mathlib.Core.List.{List, [], _∷_, _++_}
-use Prim.Native.Nat.{ℕ, _+_, _≤_, _<_}
+use Prim.Native.Nat.{ℕ, _+_, _<_}
 use native.Mathlib.Numerals.{add-one}
 use native.Mathlib.Omega.{arith}
 use lib.Dec.{eqb}
-use lib.ListN.{length, getD, set, take, drop, length-set}
+use lib.ListN.{length, getD, take, drop, length-set}
 use lib.Seq.{take-suc, drop-cons, take-length, drop-length, getD-set-same, getD-set-other}
-use borrow.Author.Tests.{eq-eqb, ne-eqb}
 use Rattle.counting.specs.TestLaws.{eq?}
-use Rattle.counting.specs.Below.{sum, lowest}
 use Rattle.counting.specs.BelowLaws.{sum-equal}
 use Rattle.counting.specs.CountLaws.{bit-self}
 use Rattle.counting.specs.SearchLaws.{lowest-equal}
 use Rattle.counting.specs.Lists.{occurrences}
-use Rattle.graph.specs.Graph.{Graph, Proper}
-use Rattle.graph.specs.Peeling.{unremoved, degree, removalList, numberLeft}
-use Rattle.graph.specs.Assignment.{Table, minusMod, fresh, firstUnvisited, visitedSum, assignEdge, assign, values}
+use Rattle.graph.specs.Graph.{Graph}
+use Rattle.graph.specs.Peeling.{unremoved, removalList, numberLeft}
+use Rattle.graph.specs.Assignment.{Table, minusMod, fresh, firstUnvisited, visitedSum, assign, values}
 use Rattle.graph.specs.DegreeLaws.{OneMore, removed-one-more}
 use Rattle.graph.specs.PeelingLaws.{removal-length, removal-once}
 use Rattle.graph.specs.OrderLaws.{Leads, removal-ordered, ordered-at}

@@ -2,7 +2,7 @@
 use mathlib.Core.Path.{_≡_}
 use mathlib.Core.List.{List, [], _++_}
 use Prim.Native.Nat.{ℕ, _+_, _≤_}
-use lib.ListN.{length, getD, take, drop}
+use lib.ListN.{length, take, drop}
 use Rattle.counting.specs.Lists.{occurrences}
 use Rattle.graph.specs.Graph.{Graph}
 use Rattle.graph.specs.Peeling.{unremoved, firstWaiting, removalList}

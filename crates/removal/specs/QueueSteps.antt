@@ -1,7 +1,7 @@
 -- One turn of the loop that lets edges join the queue, over the arrays. Assumes nothing.
-use mathlib.Core.Path.{_≡_, refl, sym, ap, _∙_}
+use mathlib.Core.Path.{_≡_, sym, ap, _∙_}
 use mathlib.Core.Logic.{⊎-elim, _≢_}
-use mathlib.Core.Bool.{true, false, _&&_}
+use mathlib.Core.Bool.{true, false}
 use mathlib.Core.List.{List, [], _∷_, _++_, append-assoc}
 use Prim.Native.Nat.{ℕ, _+_, _-_, _≤_, _<_}
 use native.Mathlib.Numerals.{add-one}
@@ -11,14 +11,13 @@ use lib.ListN.{length, getD, set, take, drop, length-append, take-append-drop}
 use lib.Seq.{getD-set-same, getD-set-other, take-suc-set, length-take-le, take-take, getD-take}
 use borrow.Author.Tests.{eq-eqb, ne-eqb}
 use Rattle.counting.specs.TestLaws.{eq?}
-use Rattle.counting.specs.Below.{bit}
 use Rattle.counting.specs.CountLaws.{bit-self, bit-other}
 use Rattle.counting.specs.Lists.{occurrences}
 use Rattle.counting.specs.OccurrenceLaws.{occurrences-back, occurrences-getD}
 use Rattle.graph.specs.Graph.{Graph}
-use Rattle.graph.specs.Peeling.{unremoved, joinBack, degree, oneLeft, follow, followAll}
-use Rattle.graph.specs.QueueLaws.{Sound, one-left, sound-room, follow-all-sound}
-use Rattle.removal.specs.Arrays.{vertexAt, graphIn, indexSum}
+use Rattle.graph.specs.Peeling.{joinBack, degree, oneLeft, follow, followAll}
+use Rattle.graph.specs.QueueLaws.{one-left, sound-room, follow-all-sound}
+use Rattle.removal.specs.Arrays.{vertexAt, graphIn}
 use Rattle.removal.specs.TallyLaws.{index-one-left}
 use Rattle.removal.specs.Queue.{removedOf, waitingOf, Bounds, Queued, Ready}
 

@@ -1,20 +1,20 @@
 -- The degrees and index sums of a set of edges: what an edge more or less does to them, and that they fit. Assumes nothing.
-use mathlib.Core.Path.{_≡_, refl, sym, ap, _∙_}
+use mathlib.Core.Path.{_≡_, sym, ap, _∙_}
 use mathlib.Core.Logic.{⊎-elim}
-use mathlib.Core.Bool.{Bool, true, false, _&&_}
+use mathlib.Core.Bool.{Bool, _&&_}
 use mathlib.Core.List.{List}
 use Prim.Native.Nat.{ℕ, _+_, _*_, _≤_, _<_}
 use native.Mathlib.Nat.{mul-le-mul-right, mul-le-mul-left}
 use native.Mathlib.Omega.{arith}
 use lib.Dec.{eqb, ltb}
-use lib.ListN.{length, getD}
-use borrow.Author.Tests.{eqb-true, ltb-true, lt-ltb, le-ltb}
+use lib.ListN.{length}
+use borrow.Author.Tests.{eqb-true, lt-ltb, le-ltb}
 use Rattle.counting.specs.TestLaws.{lt?, and-both}
 use Rattle.counting.specs.Below.{sum, bit}
 use Rattle.counting.specs.BelowLaws.{sum-mono, sum-zero, sum-equal, sum-constant}
 use Rattle.counting.specs.CountLaws.{bit-most, count-most, count-place}
 use Rattle.counting.specs.SearchLaws.{count-any}
-use Rattle.graph.specs.Graph.{Graph, Proper, names, degreeIn}
+use Rattle.graph.specs.Graph.{Graph, names, degreeIn}
 use Rattle.graph.specs.Peeling.{unremoved, degree, oneLeft}
 use Rattle.graph.specs.DegreeLaws.{OneMore, absent-unremoved, weighed-more, degree-more, degree-equal}
 use Rattle.graph.specs.QueueLaws.{one-left}

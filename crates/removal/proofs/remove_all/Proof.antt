@@ -1,7 +1,6 @@
 -- `removal::remove_all` meets its contract. Assumes nothing.
-use mathlib.Core.Path.{_≡_, sym, _∙_}
+use mathlib.Core.Path.{_≡_, _∙_}
 use lib.ListN.{length}
-use Rattle.graph.specs.Peeling.{unremoved, degree}
 use Rattle.removal.specs.Queue.{Starts}
 use Rattle.removal.specs.PeelSteps.{starts-ready}
 use Rattle.removal.proofs.remove_all.Statement.{statement}

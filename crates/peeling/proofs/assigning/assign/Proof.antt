@@ -5,7 +5,7 @@ use native.Mathlib.Omega.{arith}
 use lib.ListN.{length, getD}
 use Rattle.graph.specs.Peeling.{removalList}
 use Rattle.removal.specs.Arrays.{graphIn}
-use Rattle.peeling.specs.Assigning.{Free, Given}
+use Rattle.peeling.specs.Assigning.{Free}
 use Rattle.peeling.specs.AssigningSteps.{Back, back-none, back-free, back-more, back-all}
 use Rattle.peeling.proofs.assigning.assign.Statement.{statement}
 use Rattle.peeling.proofs.assigning.assign.Tie as tie

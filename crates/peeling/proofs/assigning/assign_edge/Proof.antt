@@ -1,9 +1,8 @@
 -- `peeling::assigning::assign_edge` meets its contract. Assumes nothing.
-use mathlib.Core.Path.{_≡_}
 use Prim.Native.Nat.{ℕ, _+_, _-_, _%_, _≤_, _<_}
 use native.Mathlib.Nat.{mod-lt}
 use native.Mathlib.Omega.{arith}
-use lib.ListN.{length, length-set}
+use lib.ListN.{length-set}
 use Rattle.graph.specs.Assignment.{minusMod}
 use Rattle.peeling.proofs.assigning.assign_edge.Statement.{statement}
 use Rattle.peeling.proofs.assigning.assign_edge.Tie as tie

@@ -5,9 +5,9 @@ use Prim.Native.Nat.{ℕ, _+_, _-_, _*_, _≤_, _<_}
 use native.Mathlib.Omega.{arith}
 use lib.ListN.{length, getD, length-set}
 use Rattle.graph.specs.Peeling.{followAll}
-use Rattle.removal.specs.Arrays.{graphIn, twoBytes}
+use Rattle.removal.specs.Arrays.{graphIn}
 use Rattle.removal.specs.TallyLaws.{held-vertices}
-use Rattle.removal.specs.Queue.{Queued, Ready, removedOf, waitingOf}
+use Rattle.removal.specs.Queue.{Queued, removedOf, waitingOf}
 use Rattle.removal.specs.QueueSteps.{Turn, removed-waiting, last-edge, x-below, f-below, joins-none, joins-marked, joins-room, joins-added}
 use Rattle.removal.proofs.queue.enqueue.Statement.{statement}
 use Rattle.removal.proofs.queue.enqueue.Tie as tie

@@ -1,5 +1,5 @@
 -- `removal::queue::first_queue` meets its contract. The invariant: of the first e edges those with a vertex of degree 1 wait. The measure is the number of edges not looked at. Assumes nothing.
-use mathlib.Core.Path.{_≡_, refl, sym, _∙_}
+use mathlib.Core.Path.{refl, sym, _∙_}
 use mathlib.Core.Logic.{⊎-elim}
 use Prim.Native.Nat.{_-_, _<_}
 use native.Mathlib.Omega.{arith}

@@ -1,6 +1,5 @@
 -- `removal::queue::peel` meets its contract. The invariant: the arrays are ready, and from here the peeling gives the removal list. The measure is the number of edges not removed. Assumes nothing.
 use mathlib.Core.Path.{_≡_, sym, _∙_}
-use mathlib.Core.List.{List}
 use Prim.Native.Nat.{ℕ, _+_, _-_, _<_}
 use native.Mathlib.Omega.{arith}
 use lib.ListN.{length, getD}

@@ -1,6 +1,6 @@
 -- `removal::tally::clear` meets its contract. The invariant: the first x entries of both arrays are 0. The measure is what is left of the arrays. Assumes nothing.
 use mathlib.Core.Path.{_≡_, refl, _∙_}
-use Prim.Native.Nat.{ℕ, _-_, _≤_}
+use Prim.Native.Nat.{_-_, _≤_}
 use native.Mathlib.Omega.{arith}
 use borrow.Author.Needs.{needs}
 use lib.ListN.{length, length-set}

@@ -1,5 +1,5 @@
 -- `removal::tally::first_of_degree` meets its contract. The invariant: none of the first j vertices has the degree. The measure is what is left of r. Assumes nothing.
-use mathlib.Core.Path.{_≡_, refl, _∙_, ap}
+use mathlib.Core.Path.{_≡_}
 use mathlib.Core.Bool.{false}
 use Prim.Native.Nat.{ℕ, _-_, _≤_, _<_}
 use native.Mathlib.Omega.{arith}
@@ -7,7 +7,7 @@ use borrow.Author.Count.{below-more}
 use borrow.Author.Tests.{eq-eqb, ne-eqb}
 use lib.Dec.{eqb}
 use lib.ListN.{length, getD}
-use Rattle.counting.specs.SearchLaws.{Lowest, lowest-only}
+use Rattle.counting.specs.SearchLaws.{lowest-only}
 use Rattle.removal.specs.Arrays.{vertexAt}
 use Rattle.removal.proofs.tally.first_of_degree.Statement.{statement}
 use Rattle.removal.proofs.tally.first_of_degree.Tie as tie

@@ -1,6 +1,6 @@
 -- `removal::tally::unlink` meets its contract. The invariant: the first j vertices of the edge are off. The measure is what is left of r. Assumes nothing.
 use mathlib.Core.Path.{_≡_, refl, _∙_}
-use Prim.Native.Nat.{ℕ, _-_, _≤_}
+use Prim.Native.Nat.{_-_, _≤_}
 use native.Mathlib.Omega.{arith}
 use lib.ListN.{length, length-set}
 use Rattle.removal.specs.Linking.{Added}
