@@ -1,7 +1,7 @@
 -- The graph of a code list is proper: each code names r vertices of the graph, which differ. Assumes nothing.
 use mathlib.Core.Path.{_≡_}
 use mathlib.Core.Logic.{⊎-elim, _≢_}
-use Prim.Native.Nat.{ℕ, _≤_}
+use Prim.Native.Nat.{_≤_}
 use Rattle.counting.specs.TestLaws.{eq?}
 use Rattle.graph.specs.Graph.{Proper}
 use Rattle.directory.specs.Kind.{Kind}

@@ -14,7 +14,7 @@ use Rattle.graph.specs.Peeling.{unremoved, leftOver, numberLeft}
 use Rattle.graph.specs.Group.{Group}
 use Rattle.graph.specs.Run.{Reached, start, step}
 use Rattle.graph.specs.DegreeLaws.{unremoved-absent, absent-unremoved, names-at, degree-mono, degree-has}
-use Rattle.graph.specs.QueueLaws.{Sound}
+use Rattle.graph.specs.Moment.{Sound}
 use Rattle.graph.specs.PeelingLaws.{reached-peeled, removal-reached, removal-peeled}
 
 module _ (G : Graph) where

@@ -1,7 +1,9 @@
 pub mod Graph
 pub mod Peeling
 pub mod Run
+pub mod Moment
 pub mod Group
+pub mod Within
 pub mod Assignment
 pub mod Examples
 pub mod DegreeLaws

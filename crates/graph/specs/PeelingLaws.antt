@@ -19,19 +19,16 @@ use Rattle.counting.specs.OccurrenceLaws.{occurrences-back, occurrences-length,
 use Rattle.graph.specs.Graph.{Graph, names}
 use Rattle.graph.specs.Peeling.{unremoved, degree, firstWaiting, followAll, peel, removalList, leftOver, numberLeft}
 use Rattle.graph.specs.Run.{Reached, start, step, joining, everWaiting}
+use Rattle.graph.specs.Moment.{Sound, Complete, Peeled}
 use Rattle.graph.specs.DegreeLaws.{absent-unremoved, unremoved-before, names-at, names-some, degree-mono, removed-one-more, degree-more}
-use Rattle.graph.specs.QueueLaws.{Sound, Complete, sound-room, follow-all-sound, follow-all-grows, follow-all-in, follow-all-back}
+use Rattle.graph.specs.QueueLaws.{sound-room, follow-all-sound, follow-all-grows, follow-all-in, follow-all-back}
 
 module _ (G : Graph) where
   open Graph G using (edges, arity, vertexOf)
 
-  pub record Peeled (removed waiting : List ℕ) : Type 0 where
-    pub sound : Sound G removed waiting
-    pub complete : Complete G removed waiting
-
   -- ---- the start
 
-  pub start-peeled : Peeled [] (firstWaiting G)
+  pub start-peeled : Peeled G [] (firstWaiting G)
   unfolding firstWaiting occurrences
   start-peeled =
       record {
@@ -74,7 +71,7 @@ module _ (G : Graph) where
           alone = λ e m. let w = s .alone e (omega arith) in (w .0, w .1, omega (arith, w .2, degree-mono G (unremoved (removed ++ front ∷ [])) (unremoved removed) (vertexOf e (w .0)) (λ i l t. unremoved-before removed front i t)));
         }
 
-    step-complete : Peeled removed (front ∷ waiting) → Complete G (removed ++ front ∷ []) (followAll G (removed ++ front ∷ []) front arity waiting)
+    step-complete : Peeled G removed (front ∷ waiting) → Complete G (removed ++ front ∷ []) (followAll G (removed ++ front ∷ []) front arity waiting)
     unfolding occurrences
     step-complete p e j l m o d = go (names G front (vertexOf e j)) refl
       where
@@ -86,13 +83,13 @@ module _ (G : Graph) where
             let same : degree G removed (vertexOf e j) ≡ 1 = omega (arith, degree-more G (removed-one-more removed front (front-absent (p .sound))) (front-edge (p .sound)) (vertexOf e j), ap bit t, d) in
             omega (arith, p .complete e j l m (omega (arith, o, occurrences-back e front removed)) same, follow-all-grows G (removed ++ front ∷ []) front arity waiting e, o, occurrences-back e front removed)
 
-    pub step-peeled : Peeled removed (front ∷ waiting) → Peeled (removed ++ front ∷ []) (followAll G (removed ++ front ∷ []) front arity waiting)
+    pub step-peeled : Peeled G removed (front ∷ waiting) → Peeled G (removed ++ front ∷ []) (followAll G (removed ++ front ∷ []) front arity waiting)
     step-peeled p = record { sound = follow-all-sound G (removed ++ front ∷ []) front arity waiting (step-sound (p .sound)); complete = step-complete p }
 
   fuel-step : (removed : List ℕ) (front k : ℕ) → edges ≤ length removed + suc k → edges ≤ length (removed ++ front ∷ []) + k
   fuel-step removed front k h = omega (arith, length-append removed (front ∷ []))
 
-  pub reached-peeled : {removed waiting : List ℕ} → Reached G removed waiting → Peeled removed waiting
+  pub reached-peeled : {removed waiting : List ℕ} → Reached G removed waiting → Peeled G removed waiting
   reached-peeled start = start-peeled
   reached-peeled (step r) = step-peeled (reached-peeled r)
 
@@ -138,7 +135,7 @@ module _ (G : Graph) where
   unfolding removalList
   removal-reached = peel-reached edges start (omega arith)
 
-  pub removal-peeled : Peeled (removalList G) []
+  pub removal-peeled : Peeled G (removalList G) []
   removal-peeled = reached-peeled removal-reached
 
   -- no edge is removed twice, and only edges are

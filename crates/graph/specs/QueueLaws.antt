@@ -1,4 +1,4 @@
--- What holds at each moment of the peeling, and how an edge that joins the queue keeps it. Assumes nothing.
+-- How an edge that joins the queue keeps what holds at each moment of the peeling. Assumes nothing.
 use mathlib.Core.Path.{_≡_, refl, sym, ap, _∙_}
 use mathlib.Core.Logic.{_⊎_, inl, inr, ⊎-elim, _≢_}
 use mathlib.Core.Bool.{Bool, true, false, _&&_, cond}
@@ -16,6 +16,7 @@ use Rattle.counting.specs.Lists.{occurrences}
 use Rattle.counting.specs.OccurrenceLaws.{occurrences-append, occurrences-back, occurrences-most}
 use Rattle.graph.specs.Graph.{Graph, names, degreeIn}
 use Rattle.graph.specs.Peeling.{unremoved, joinBack, degree, oneLeft, follow, followAll}
+use Rattle.graph.specs.Moment.{Single, Sound}
 use Rattle.graph.specs.DegreeLaws.{unremoved-absent, absent-unremoved, names-some}
 
 -- ---- joining the back
@@ -53,13 +54,7 @@ join-back e waiting = go (eqb (occurrences e waiting) 0)
 module _ (G : Graph) where
   open Graph G using (edges, arity, vertexOf)
 
-  -- the one edge left on a vertex of degree 1 is one, is unremoved and names the vertex
-  pub record Single (removed : List ℕ) (x e : ℕ) : Type 0 where
-    pub isEdge : e < edges
-    pub absent : occurrences e removed ≡ 0
-    pub named : names G e x ≡ true
-
-  pub one-left : (removed : List ℕ) (x : ℕ) → degree G removed x ≡ 1 → Single removed x (oneLeft G removed x)
+  pub one-left : (removed : List ℕ) (x : ℕ) → degree G removed x ≡ 1 → Single G removed x (oneLeft G removed x)
   unfolding oneLeft degreeIn
   one-left removed x d =
       let e = oneLeft G removed x in
@@ -72,31 +67,19 @@ module _ (G : Graph) where
       }
 
   -- and no other edge is
-  pub one-left-only : (removed : List ℕ) (x : ℕ) → degree G removed x ≡ 1 → (e : ℕ) → Single removed x e → oneLeft G removed x ≡ e
+  pub one-left-only : (removed : List ℕ) (x : ℕ) → degree G removed x ≡ 1 → (e : ℕ) → Single G removed x e → oneLeft G removed x ≡ e
   unfolding oneLeft degreeIn
   one-left-only removed x d e s = lowest-one edges (λ f. unremoved removed f && names G f x) (omega (arith, d)) e (s .isEdge) (and-both (absent-unremoved removed e (s .absent)) (s .named))
 
-  -- ---- what holds at each moment
-
-  -- no edge stands in the two lists twice; what stands in them are edges; each that waits has a vertex that no other unremoved edge names
-  pub record Sound (removed waiting : List ℕ) : Type 0 where
-    pub once : (e : ℕ) → occurrences e removed + occurrences e waiting ≤ 1
-    pub isEdge : (e : ℕ) → 1 ≤ occurrences e removed + occurrences e waiting → e < edges
-    pub alone : (e : ℕ) → 1 ≤ occurrences e waiting → (j : ℕ) × (j < arity) × (degree G removed (vertexOf e j) ≤ 1)
-
-  -- each unremoved edge that has a vertex of degree 1 waits
-  abbrev pub Complete : List ℕ → List ℕ → Type 0
-  Complete removed waiting = (e j : ℕ) → e < edges → j < arity → occurrences e removed ≡ 0 → degree G removed (vertexOf e j) ≡ 1 → 1 ≤ occurrences e waiting
-
   -- removed and waiting together are at most as many as there are edges
-  pub sound-room : (removed waiting : List ℕ) → Sound removed waiting → length removed + length waiting ≤ edges
+  pub sound-room : (removed waiting : List ℕ) → Sound G removed waiting → length removed + length waiting ≤ edges
   sound-room removed waiting s =
       let most = occurrences-most edges (removed ++ waiting) (λ e m. s .isEdge e (omega (arith, occurrences-append e removed waiting))) (λ e. omega (arith, occurrences-append e removed waiting, s .once e)) in
       omega (arith, most, length-append removed waiting)
 
   -- ---- an edge joins
 
-  join-sound : (removed : List ℕ) (e : ℕ) (waiting : List ℕ) → Sound removed waiting → e < edges → occurrences e removed ≡ 0 → (j : ℕ) × (j < arity) × (degree G removed (vertexOf e j) ≤ 1) → Sound removed (joinBack e waiting)
+  join-sound : (removed : List ℕ) (e : ℕ) (waiting : List ℕ) → Sound G removed waiting → e < edges → occurrences e removed ≡ 0 → (j : ℕ) × (j < arity) × (degree G removed (vertexOf e j) ≤ 1) → Sound G removed (joinBack e waiting)
   join-sound removed e waiting s l o w =
       record {
         once = λ f. ⊎-elim (λ h. omega (arith, s .once f, h)) (λ h. omega (arith, ap (λ i. occurrences i removed) (h .0), h .2)) (join-cases e waiting f);
@@ -104,11 +87,11 @@ module _ (G : Graph) where
         alone = λ f m. ⊎-elim (λ h. s .alone f (omega (arith, h))) (λ h. rw (h .0) w) (join-cases e waiting f);
       }
 
-  follow-sound : (removed : List ℕ) (x : ℕ) (waiting : List ℕ) → Sound removed waiting → Sound removed (follow G removed x waiting)
+  follow-sound : (removed : List ℕ) (x : ℕ) (waiting : List ℕ) → Sound G removed waiting → Sound G removed (follow G removed x waiting)
   unfolding follow
   follow-sound removed x waiting s = go (eqb (degree G removed x) 1) refl
     where
-      go : (b : Bool) → eqb (degree G removed x) 1 ≡ b → Sound removed (cond b (joinBack (oneLeft G removed x) waiting) waiting)
+      go : (b : Bool) → eqb (degree G removed x) 1 ≡ b → Sound G removed (cond b (joinBack (oneLeft G removed x) waiting) waiting)
       go true t =
           let d : degree G removed x ≡ 1 = eqb-true _ _ t in
           let o = one-left removed x d in
@@ -124,13 +107,13 @@ module _ (G : Graph) where
       go true = ⊎-elim (λ h. omega (arith, h)) (λ h. omega (arith, h .1)) (join-cases (oneLeft G removed x) waiting e)
       go false = omega arith
 
-  follow-in : (removed : List ℕ) (x : ℕ) (waiting : List ℕ) (e : ℕ) → degree G removed x ≡ 1 → Single removed x e → 1 ≤ occurrences e (follow G removed x waiting)
+  follow-in : (removed : List ℕ) (x : ℕ) (waiting : List ℕ) (e : ℕ) → degree G removed x ≡ 1 → Single G removed x e → 1 ≤ occurrences e (follow G removed x waiting)
   unfolding follow
   follow-in removed x waiting e d s = rw (eq-eqb _ _ d, one-left-only removed x d e s) (join-in e waiting)
 
   -- ---- so for the vertices of an edge
 
-  pub follow-all-sound : (removed : List ℕ) (e k : ℕ) (waiting : List ℕ) → Sound removed waiting → Sound removed (followAll G removed e k waiting)
+  pub follow-all-sound : (removed : List ℕ) (e k : ℕ) (waiting : List ℕ) → Sound G removed waiting → Sound G removed (followAll G removed e k waiting)
   unfolding followAll
   follow-all-sound removed e zero waiting s = s
   follow-all-sound removed e (suc k) waiting s = follow-sound removed (vertexOf e k) _ (follow-all-sound removed e k waiting s)
@@ -140,7 +123,7 @@ module _ (G : Graph) where
   follow-all-grows removed e zero waiting f = omega arith
   follow-all-grows removed e (suc k) waiting f = omega (arith, follow-all-grows removed e k waiting f, follow-grows removed (vertexOf e k) (followAll G removed e k waiting) f)
 
-  pub follow-all-in : (removed : List ℕ) (e k : ℕ) (waiting : List ℕ) (j f : ℕ) → j < k → degree G removed (vertexOf e j) ≡ 1 → Single removed (vertexOf e j) f → 1 ≤ occurrences f (followAll G removed e k waiting)
+  pub follow-all-in : (removed : List ℕ) (e k : ℕ) (waiting : List ℕ) (j f : ℕ) → j < k → degree G removed (vertexOf e j) ≡ 1 → Single G removed (vertexOf e j) f → 1 ≤ occurrences f (followAll G removed e k waiting)
   unfolding followAll
   follow-all-in removed e zero waiting j f l d s = absurd (omega arith)
   follow-all-in removed e (suc k) waiting j f l d s =

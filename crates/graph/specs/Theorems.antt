@@ -10,13 +10,14 @@ use Rattle.graph.specs.Graph.{Graph, Proper, size}
 use Rattle.graph.specs.Group.{Group}
 use Rattle.graph.specs.Peeling.{peel, removalList, leftOver, numberLeft}
 use Rattle.graph.specs.Run.{Reached, everWaiting}
+use Rattle.graph.specs.Within.{Within}
 use Rattle.graph.specs.Assignment.{assigned, assignedBelow, assign, values, landingVertex, line}
 use Rattle.graph.specs.PeelingLaws.{reached-once, reached-room, reached-removal, ever-waiting-removed, ever-waiting-once, left-and-removed}
 use Rattle.graph.specs.GroupLaws.{left-group, group-left, refused-exactly, largest-bound, largest-attained}
 use Rattle.graph.specs.AssignmentLaws.{values-most, drop-unassigned}
 use Rattle.graph.specs.LandingLaws.{landing-inside, landing-assigned, landing-own, assigned-exactly, assigned-number}
 use Rattle.graph.specs.LineLaws.{line-below, line-own, line-onto}
-use Rattle.graph.specs.WithinLaws.{Within, within-left, within-number, within-none, same-number, same-left}
+use Rattle.graph.specs.WithinLaws.{within-left, within-number, within-none, same-number, same-left}
 
 module _ (G : Graph) where
   open Graph G using (edges, arity, vertices)

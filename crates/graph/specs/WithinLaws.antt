@@ -12,15 +12,9 @@ use Rattle.counting.specs.SearchLaws.{any-has, any-some}
 use Rattle.graph.specs.Graph.{Graph, names, degreeIn}
 use Rattle.graph.specs.Peeling.{leftOver, numberLeft}
 use Rattle.graph.specs.Group.{Group}
+use Rattle.graph.specs.Within.{Within}
 use Rattle.graph.specs.DegreeLaws.{names-at, names-some}
 use Rattle.graph.specs.GroupLaws.{left-group, group-left}
-
--- the edges of G are, under `to`, among those of H
-pub record Within (G H : Graph) (to : ℕ → ℕ) : Type 0 where
-  pub sameArity : G .arity ≡ H .arity
-  pub inside : (e : ℕ) → e < G .edges → to e < H .edges
-  pub apart : (e f : ℕ) → e < G .edges → f < G .edges → to e ≡ to f → e ≡ f
-  pub sameVertices : (e j : ℕ) → e < G .edges → j < G .arity → G .vertexOf e j ≡ H .vertexOf (to e) j
 
 -- what a set of edges of G becomes in H
 image : (G : Graph) (to : ℕ → ℕ) → (ℕ → Bool) → ℕ → Bool

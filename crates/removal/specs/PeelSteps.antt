@@ -11,7 +11,8 @@ use Rattle.counting.specs.OccurrenceLaws.{occurrences-back}
 use Rattle.graph.specs.Graph.{Graph}
 use Rattle.graph.specs.Peeling.{unremoved, firstWaiting, followAll, peel, removalList}
 use Rattle.graph.specs.DegreeLaws.{OneMore, removed-one-more}
-use Rattle.graph.specs.QueueLaws.{Sound, follow-all-sound}
+use Rattle.graph.specs.Moment.{Sound}
+use Rattle.graph.specs.QueueLaws.{follow-all-sound}
 use Rattle.graph.specs.PeelingLaws.{start-peeled, front-edge, front-absent, step-sound, peel-none}
 use Rattle.removal.specs.Arrays.{graphIn, Held, Wide, Tallied}
 use Rattle.removal.specs.Linking.{Added, Enough}

@@ -6,7 +6,7 @@ use lib.ListN.{length, take, drop}
 use Rattle.counting.specs.Lists.{occurrences}
 use Rattle.graph.specs.Graph.{Graph}
 use Rattle.graph.specs.Peeling.{unremoved, firstWaiting, removalList}
-use Rattle.graph.specs.QueueLaws.{Sound}
+use Rattle.graph.specs.Moment.{Sound}
 use Rattle.removal.specs.Arrays.{graphIn, Held, Wide, Holds, Tallied}
 
 -- the removed edges stand before `head`, those that wait from there up to `tail`
