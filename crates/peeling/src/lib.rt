@@ -17,6 +17,7 @@ ghost use Rattle.peeling.specs.Assigning.{AllRemoved};
 ghost use Rattle.peeling.specs.Arranging.{Room, Lent, Lined, Arranged};
 
 // Gives each edge its line, where all are removed and stand in order, first removed first: the values, the rank entries and the edges in the order of their lines.
+// Once the values stand, `degrees` takes the number of assigned vertices below each vertex.
 fn give_lines(
     r: usize,
     edges: &[u16],
@@ -38,6 +39,7 @@ fn give_lines(
 }
 
 // The whole sequence over arrays with an entry for each vertex, each edge and each block. Returns the number of edges left over; where none is, the values, the rank entries and the edges in the order of their lines are written.
+// While edges are removed, `keys` has the marks of those that ever waited.
 fn arrange_all(
     r: usize,
     edges: &[u16],

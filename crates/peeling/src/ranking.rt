@@ -8,7 +8,7 @@ ghost use Rattle.graph.specs.Assignment.{assignedBelow, blockSize, blocks};
 ghost use Rattle.removal.specs.Arrays.{twoBytes, Holds};
 ghost use Rattle.peeling.specs.Ranking.{Distinct, Keyed};
 
-// Where the blocks of vertices are this long, each has a rank entry.
+// A rank entry stands for each block of so many vertices.
 pub const BLOCK: usize = 64;
 
 // For each vertex the number of assigned vertices below it.

@@ -11,7 +11,7 @@ ghost use lib.ListN.{length};
 ghost use Rattle.removal.specs.Arrays.{Held, graphIn};
 ghost use Rattle.removal.specs.Queue.{Peeled};
 
-// Peels all edges that can be removed, and returns how many were: they stand in order, first removed first. `queued` is written.
+// Peels all edges that can be removed, and returns how many were: they stand in order, first removed first. `queued` marks each edge that ever waited.
 pub fn remove_all(
     r: usize,
     edges: &[u16],
