@@ -68,3 +68,9 @@ those-once (suc k) p x l =
     (λ (e : x ≡ k). omega (arith, those-back k p x, those-past k p x (omega arith), ap bit (ap (λ t. p k && t) (eq-eqb x k e) ∙ and-true (p k)), ap (λ a. bit (p a)) e))
     (λ (d : x ≢ k). omega (arith, those-back k p x, those-once k p x (omega arith), ap bit (ap (λ t. p k && t) (ne-eqb x k d) ∙ and-false (p k))))
     (eq? x k)
+
+-- tests that agree below k have the same numbers pass
+pub those-equal : (k : ℕ) (p q : ℕ → Bool) → ((i : ℕ) → i < k → p i ≡ q i) → those k p ≡ those k q
+unfolding those
+those-equal zero p q h = refl
+those-equal (suc k) p q h = rw (those-equal k p q (λ i l. h i (omega arith)), h k (omega arith))

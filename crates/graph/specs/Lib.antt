@@ -4,6 +4,7 @@ pub mod Run
 pub mod Moment
 pub mod Group
 pub mod Within
+pub mod Agree
 pub mod Assignment
 pub mod Examples
 pub mod DegreeLaws
@@ -16,4 +17,5 @@ pub mod AssignmentLaws
 pub mod PutBackLaws
 pub mod LandingLaws
 pub mod LineLaws
+pub mod AgreeLaws
 pub mod Theorems

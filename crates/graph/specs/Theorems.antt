@@ -11,13 +11,15 @@ use Rattle.graph.specs.Group.{Group}
 use Rattle.graph.specs.Peeling.{peel, removalList, leftOver, numberLeft}
 use Rattle.graph.specs.Run.{Reached, everWaiting}
 use Rattle.graph.specs.Within.{Within}
-use Rattle.graph.specs.Assignment.{assigned, assignedBelow, assign, values, landingVertex, line}
+use Rattle.graph.specs.Agree.{Agree}
+use Rattle.graph.specs.Assignment.{assigned, assignedBelow, assign, values, landingVertex, line, edgeOfLine}
 use Rattle.graph.specs.PeelingLaws.{reached-once, reached-room, reached-removal, ever-waiting-removed, ever-waiting-once, left-and-removed}
 use Rattle.graph.specs.GroupLaws.{left-group, group-left, refused-exactly, largest-bound, largest-attained}
 use Rattle.graph.specs.AssignmentLaws.{values-most, drop-unassigned}
 use Rattle.graph.specs.LandingLaws.{landing-inside, landing-assigned, landing-own, assigned-exactly, assigned-number}
 use Rattle.graph.specs.LineLaws.{line-below, line-own, line-onto}
 use Rattle.graph.specs.WithinLaws.{within-left, within-number, within-none, same-number, same-left}
+use Rattle.graph.specs.AgreeLaws.{agree-left, agree-number, agree-values, agree-line, agree-edge}
 
 module _ (G : Graph) where
   open Graph G using (edges, arity, vertices)
@@ -133,3 +135,26 @@ module _ {G H : Graph} {to : ℕ → ℕ} (w : Within G H to) where
   -- and the same ones
   pub the-same-edges-are-left : {from : ℕ → ℕ} → Within H G from → (e : ℕ) → e < G .edges → leftOver G e ≡ leftOver H (to e)
   the-same-edges-are-left = same-left w
+
+-- ---- a graph is what its edges name: here each edge names the same vertices in G as in H, which may differ past the edges and past the arity
+
+module _ {G H : Graph} (a : Agree G H) where
+  -- the same edges are left over
+  pub graphs-that-agree-leave-the-same : (e : ℕ) → leftOver G e ≡ leftOver H e
+  graphs-that-agree-leave-the-same = agree-left a
+
+  -- and as many
+  pub graphs-that-agree-leave-as-many : numberLeft G ≡ numberLeft H
+  graphs-that-agree-leave-as-many = agree-number a
+
+  -- each vertex has the same value
+  pub graphs-that-agree-have-the-same-values : (x : ℕ) → values G x ≡ values H x
+  graphs-that-agree-have-the-same-values = agree-values a
+
+  -- each edge has the same line
+  pub graphs-that-agree-have-the-same-lines : (e : ℕ) → e < G .edges → line G e ≡ line H e
+  graphs-that-agree-have-the-same-lines = agree-line a
+
+  -- and each line the same edge
+  pub graphs-that-agree-have-the-same-edge-on-each-line : (l : ℕ) → edgeOfLine G l ≡ edgeOfLine H l
+  graphs-that-agree-have-the-same-edge-on-each-line = agree-edge a
