@@ -9,7 +9,7 @@ use Rattle.graph.specs.Assignment.{blocks, rankEntry, values, edgeOfLine}
 use Rattle.removal.specs.Arrays.{Held, Holds}
 
 -- the arrays are long enough for n edges and m vertices
-pub record Room (n m : ℕ) (degrees sums order values rank keys : List ℕ) : Type 0 where
+pub record LongEnough (n m : ℕ) (degrees sums order values rank keys : List ℕ) : Type 0 where
   pub forDegrees : m ≤ length degrees
   pub forSums : m ≤ length sums
   pub forOrder : n ≤ length order
@@ -18,7 +18,7 @@ pub record Room (n m : ℕ) (degrees sums order values rank keys : List ℕ) : T
   pub forKeys : n ≤ length keys
 
 -- an entry for each of m vertices, for each of their blocks and for each of n edges
-pub record Lent (n r m : ℕ) (edges sums values rank keys : List ℕ) : Type 0 where
+pub record Exact (n r m : ℕ) (edges sums values rank keys : List ℕ) : Type 0 where
   pub held : Held n r m edges
   pub forSums : length sums ≡ m
   pub forValues : length values ≡ m

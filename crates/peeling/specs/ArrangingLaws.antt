@@ -1,4 +1,5 @@
 -- From the end of the peeling to the values, and from these to the lines. Assumes nothing.
+-- D, C, O, W, B, R and K stand for the arrays of degrees, index sums, order, values, counts below, rank entries and keys.
 use mathlib.Core.Path.{_≡_, sym, ap, _∙_}
 use mathlib.Core.List.{List, _++_}
 use Prim.Native.Nat.{ℕ, _+_, _*_, _%_, _≤_, _<_}
@@ -19,7 +20,7 @@ use Rattle.graph.specs.LineLaws.{line-below, line-own, line-onto}
 use Rattle.removal.specs.Arrays.{graphIn, vertexAt, Held, Wide, Holds}
 use Rattle.removal.specs.HoldsLaws.{holds-front}
 use Rattle.removal.specs.TallyLaws.{held-vertices}
-use Rattle.removal.specs.Queue.{Peeled}
+use Rattle.removal.specs.Queue.{Removed}
 use Rattle.peeling.specs.Assigning.{AllRemoved}
 use Rattle.peeling.specs.Ranking.{lineIn, Distinct, Keyed}
 use Rattle.peeling.specs.RankingSteps.{block-start}
@@ -27,13 +28,13 @@ use Rattle.peeling.specs.Arranging.{Arranged}
 
 -- ---- the end of the peeling
 
-pub peeled-number : {G : Graph} {D C O : List ℕ} {removed : ℕ} → Peeled G D C O removed → length O ≡ G .edges → numberLeft G + removed ≡ G .edges
-peeled-number {G} {O = O} {removed} p o = omega (arith, left-and-removed G, ap length (p .list), length-take-le removed O (omega (arith, p .most)))
+pub removed-number : {G : Graph} {D C O : List ℕ} {removed : ℕ} → Removed G D C O removed → length O ≡ G .edges → numberLeft G + removed ≡ G .edges
+removed-number {G} {O = O} {removed} p o = omega (arith, left-and-removed G, ap length (p .list), length-take-le removed O (omega (arith, p .most)))
 
-pub peeled-all : {n r m : ℕ} {edges D C O : List ℕ} {removed : ℕ} → Peeled (graphIn n r m edges) D C O removed → length O ≡ n → n ≤ removed → Held n r m edges → Wide m D C → (W : List ℕ) → length W ≡ m → AllRemoved n r m edges O D C W
-peeled-all {O = O} {removed} p o all held wide W forValues =
+pub removed-every : {n r m : ℕ} {edges D C O : List ℕ} {removed : ℕ} → Removed (graphIn n r m edges) D C O removed → length O ≡ n → n ≤ removed → Held n r m edges → Wide m D C → (W : List ℕ) → length W ≡ m → AllRemoved n r m edges O D C W
+removed-every {O = O} {removed} p o all held wide W forValues =
     let whole : take removed O ≡ O = take-all removed O (omega arith) in
-    record { held = held; wide = wide; forValues = forValues; nothing = omega (arith, peeled-number p o); list = sym whole ∙ p .list; tallied = rw whole at (p .tallied) }
+    record { held = held; wide = wide; forValues = forValues; nothing = omega (arith, removed-number p o); list = sym whole ∙ p .list; tallied = rw whole at (p .tallied) }
 
 -- ---- W holds the values, B the number of assigned vertices below each
 

@@ -1,4 +1,5 @@
 -- One turn of the assignment, over the arrays: from the edges after the first k to those after one less. Assumes nothing.
+-- D, C and W stand for the arrays of degrees, index sums and values; a prime marks what has become of one.
 use mathlib.Core.Path.{_≡_, sym, ap, _∙_}
 use mathlib.Core.Logic.{⊎-elim, _≢_}
 use mathlib.Core.List.{List, [], _∷_, _++_}

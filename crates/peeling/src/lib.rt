@@ -14,7 +14,7 @@ ghost use lib.ListN.{length};
 ghost use Rattle.graph.specs.Assignment.{blocks};
 ghost use Rattle.removal.specs.Arrays.{Held, graphIn};
 ghost use Rattle.peeling.specs.Assigning.{AllRemoved};
-ghost use Rattle.peeling.specs.Arranging.{Room, Lent, Lined, Arranged};
+ghost use Rattle.peeling.specs.Arranging.{LongEnough, Exact, Lined, Arranged};
 
 // Gives each edge its line, where all are removed and stand in order, first removed first: the values, the rank entries and the edges in the order of their lines.
 // Once the values stand, `degrees` takes the number of assigned vertices below each vertex.
@@ -50,7 +50,7 @@ fn arrange_all(
     rank: &mut [u16],
     keys: &mut [u16],
 ) -> usize
-    requires { ⌜ Lent (length (now order)) r (length (now degrees)) (now edges) (now sums) (now values) (now rank) (now keys) ⌝ }
+    requires { ⌜ Exact (length (now order)) r (length (now degrees)) (now edges) (now sums) (now values) (now rank) (now keys) ⌝ }
     ensures { λ left. ⌜ Arranged (graphIn (length (now (order .entry))) r (length (now (degrees .entry))) (now (edges .entry))) (now (values .exit)) (now (rank .exit)) (now (keys .exit)) left ⌝ }
 {
     let removed = remove_all(r, edges, degrees, sums, keys, order);
@@ -75,7 +75,7 @@ pub fn arrange(
     keys: &mut [u16],
 ) -> usize
     requires held { ⌜ Held n r (r * v) (now edges) ⌝ }
-    requires room { ⌜ Room n (r * v) (now degrees) (now sums) (now order) (now values) (now rank) (now keys) ⌝ }
+    requires long { ⌜ LongEnough n (r * v) (now degrees) (now sums) (now order) (now values) (now rank) (now keys) ⌝ }
     ensures { λ left. ⌜ Arranged (graphIn n r (r * v) (now (edges .entry))) (now (values .exit)) (now (rank .exit)) (now (keys .exit)) left ⌝ }
 {
     let m = r * v;

@@ -1,4 +1,5 @@
 -- One turn of the loop that makes the first queue, over the arrays. Assumes nothing.
+-- D, M and O stand for the arrays of degrees, marks and order.
 use mathlib.Core.Path.{_≡_, refl, sym, ap, _∙_}
 use mathlib.Core.Bool.{Bool, true, false}
 use mathlib.Core.List.{List, [], _∷_, _++_}

@@ -1,4 +1,5 @@
 -- One turn of putting an edge on its vertices, or of taking it off. Assumes nothing.
+-- D and C stand for the arrays of degrees and index sums; a prime marks what has become of one.
 use mathlib.Core.Path.{_≡_, sym, ap}
 use mathlib.Core.Logic.{⊎-elim, _≢_}
 use mathlib.Core.List.{List}

@@ -1,4 +1,5 @@
 -- One turn of the peeling, over the arrays: the front edge is removed, and what follows it joins. Assumes nothing.
+-- D, C, M and O stand for the arrays of degrees, index sums, marks and order; a prime marks what has become of one.
 use mathlib.Core.Path.{_≡_, sym, ap, _∙_}
 use mathlib.Core.List.{List, [], _∷_, _++_}
 use Prim.Native.Nat.{ℕ, suc, _+_, _-_, _≤_, _<_}
@@ -17,7 +18,7 @@ use Rattle.graph.specs.PeelingLaws.{start-peeled, front-edge, front-absent, ste
 use Rattle.removal.specs.Arrays.{graphIn, Held, Wide, Tallied}
 use Rattle.removal.specs.Linking.{Added, Enough}
 use Rattle.removal.specs.TallyLaws.{tallied-less, tallied-enough}
-use Rattle.removal.specs.Queue.{removedOf, waitingOf, Queued, Ready, Starts, Peeled}
+use Rattle.removal.specs.Queue.{removedOf, waitingOf, Queued, Ready, Starts, Removed}
 
 -- the first queue stands in the array: the peeling can start
 pub starts-ready : {n r m : ℕ} {edges D C M O : List ℕ} {tail : ℕ} → Held n r m edges → Wide m D C → length M ≡ n → length O ≡ n → Tallied (graphIn n r m edges) (unremoved []) D C → Queued n [] (firstWaiting (graphIn n r m edges)) M O tail → Starts n r m edges D C M O tail
@@ -130,7 +131,7 @@ module _ {n r m : ℕ} {edges D C M O : List ℕ} {head tail : ℕ} (g : Going n
 
 -- ---- at the end none waits
 
-pub going-end : {n r m : ℕ} {edges D C M O : List ℕ} {head tail : ℕ} → Going n r m edges D C M O head tail → tail ≤ head → Peeled (graphIn n r m edges) D C O head
+pub going-end : {n r m : ℕ} {edges D C M O : List ℕ} {head tail : ℕ} → Going n r m edges D C M O head tail → tail ≤ head → Removed (graphIn n r m edges) D C O head
 going-end {n} {r} {m} {edges} {O = O} {head} {tail} g h =
     let z : length (take tail O) ≤ head = omega (arith, length-take tail O) in
     record {

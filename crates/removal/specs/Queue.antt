@@ -49,7 +49,7 @@ pub record Starts (n r m : ℕ) (edges degrees sums queued order : List ℕ) (ta
   pub isFirst : take tail order ≡ firstWaiting (graphIn n r m edges)
 
 -- and at its end: so many edges are removed, and the degrees and sums are those of the others
-pub record Peeled (G : Graph) (degrees sums order : List ℕ) (removed : ℕ) : Type 0 where
+pub record Removed (G : Graph) (degrees sums order : List ℕ) (removed : ℕ) : Type 0 where
   pub most : removed ≤ G .edges
   pub list : removedOf order removed ≡ removalList G
   pub tallied : Tallied G (unremoved (removedOf order removed)) degrees sums

@@ -1,4 +1,5 @@
 -- One turn of the loop that lets edges join the queue, over the arrays. Assumes nothing.
+-- D, C, M and O stand for the arrays of degrees, index sums, marks and order; M₀ and O₀ for those at the start of the loop.
 use mathlib.Core.Path.{_≡_, sym, ap, _∙_}
 use mathlib.Core.Logic.{⊎-elim, _≢_}
 use mathlib.Core.Bool.{true, false}

@@ -1,4 +1,5 @@
 -- The degrees and index sums of a set of edges: what an edge more or less does to them, and that they fit. Assumes nothing.
+-- D and C stand for the arrays of degrees and index sums; a prime marks what has become of one.
 use mathlib.Core.Path.{_≡_, sym, ap, _∙_}
 use mathlib.Core.Logic.{⊎-elim}
 use mathlib.Core.Bool.{Bool, _&&_}

@@ -9,7 +9,7 @@ use crate::tally::tally;
 ghost use mathlib.Core.Path.{_≡_};
 ghost use lib.ListN.{length};
 ghost use Rattle.removal.specs.Arrays.{Held, graphIn};
-ghost use Rattle.removal.specs.Queue.{Peeled};
+ghost use Rattle.removal.specs.Queue.{Removed};
 
 // Peels all edges that can be removed, and returns how many were: they stand in order, first removed first. `queued` marks each edge that ever waited.
 pub fn remove_all(
@@ -22,7 +22,7 @@ pub fn remove_all(
 ) -> usize
     requires held { ⌜ Held (length (now order)) r (length (now degrees)) (now edges) ⌝ }
     requires even { ⌜ (length (now sums) ≡ length (now degrees)) × (length (now queued) ≡ length (now order)) ⌝ }
-    ensures { λ removed. ⌜ Peeled (graphIn (length (now (order .entry))) r (length (now (degrees .entry))) (now (edges .entry))) (now (degrees .exit)) (now (sums .exit)) (now (order .exit)) removed ⌝ }
+    ensures { λ removed. ⌜ Removed (graphIn (length (now (order .entry))) r (length (now (degrees .entry))) (now (edges .entry))) (now (degrees .exit)) (now (sums .exit)) (now (order .exit)) removed ⌝ }
 {
     tally(order.len(), r, edges, degrees, sums);
     let tail = first_queue(r, edges, degrees, queued, order);

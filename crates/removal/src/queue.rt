@@ -8,7 +8,7 @@ ghost use Prim.Native.Nat.{_-_};
 ghost use lib.ListN.{length, getD};
 ghost use Rattle.graph.specs.Peeling.{degree, firstWaiting, followAll};
 ghost use Rattle.removal.specs.Arrays.{Held, graphIn, Holds};
-ghost use Rattle.removal.specs.Queue.{Ready, Queued, Bounds, Starts, Peeled, removedOf, waitingOf};
+ghost use Rattle.removal.specs.Queue.{Ready, Queued, Bounds, Starts, Removed, removedOf, waitingOf};
 
 // The first queue: every edge, in list order, that has a vertex of degree 1. Returns its length, and marks the edges in it.
 pub fn first_queue(
@@ -82,7 +82,7 @@ pub fn peel(
     order: &mut [u16],
 ) -> usize
     requires { ⌜ Starts (length (now order)) r (length (now degrees)) (now edges) (now degrees) (now sums) (now queued) (now order) tail ⌝ }
-    ensures { λ removed. ⌜ Peeled (graphIn (length (now (order .entry))) r (length (now (degrees .entry))) (now (edges .entry))) (now (degrees .exit)) (now (sums .exit)) (now (order .exit)) removed ⌝ }
+    ensures { λ removed. ⌜ Removed (graphIn (length (now (order .entry))) r (length (now (degrees .entry))) (now (edges .entry))) (now (degrees .exit)) (now (sums .exit)) (now (order .exit)) removed ⌝ }
 {
     let mut head = 0;
     let mut t = tail;

@@ -5,7 +5,7 @@ use Prim.Native.Nat.{ℕ, _≤_}
 use native.Mathlib.Omega.{arith}
 use lib.ListN.{length}
 use Rattle.peeling.specs.Assigning.{AllRemoved}
-use Rattle.peeling.specs.ArrangingLaws.{peeled-number, peeled-all}
+use Rattle.peeling.specs.ArrangingLaws.{removed-number, removed-every}
 use Rattle.peeling.proofs.arrange_all.Statement.{statement}
 use Rattle.peeling.proofs.arrange_all.Tie as tie
 
@@ -30,7 +30,7 @@ module _ (c : tie.After-remove-all) where
   kept-degrees = c .remove-all .kept .1 .1 .0
 
   all : n ≤ c .remove-all .result → AllRemoved n (s .args .r) m (s .args .edges .now) order (c .remove-all .last .1 .1 .0) (c .remove-all .last .1 .1 .1 .0) (s .args .values .now)
-  all h = peeled-all (c .remove-all .ensures) kept-order h (s .pre .held) (record { forDegrees = kept-degrees; forSums = c .remove-all .kept .1 .1 .1 .0 ∙ s .pre .forSums }) _ (s .pre .forValues)
+  all h = removed-every (c .remove-all .ensures) kept-order h (s .pre .held) (record { forDegrees = kept-degrees; forSums = c .remove-all .kept .1 .1 .1 .0 ∙ s .pre .forSums }) _ (s .pre .forValues)
 
 abbrev then : tie.Then1 → tie.After-remove-all
 then c = c .before .before .before .before .before .before .before .before .before
@@ -59,7 +59,7 @@ same-length-4 c = then c .remove-all .kept .1 .1 .1 .1 .0
 returns : tie.Need-returns
 returns c =
     let t = then c in
-    record { isLeft = omega (arith, peeled-number (t .remove-all .ensures) (kept-order t), c .if1 .taken, kept-order t); lined = λ z. absurd (omega (arith, c .if1 .taken, z)) }
+    record { isLeft = omega (arith, removed-number (t .remove-all .ensures) (kept-order t), c .if1 .taken, kept-order t); lined = λ z. absurd (omega (arith, c .if1 .taken, z)) }
 
 give-lines-requires : tie.Need-give-lines-requires
 give-lines-requires c κs =
