@@ -120,4 +120,8 @@ returns c =
 pub arrange-spec : {M : Type 1} → statement M
 arrange-spec =
     tie.close
-    (tie.spec mul-m sub-blocks add-blocks slice-relend-prefix-arrange-all slice-aggregate-arrange-all slice-relend-prefix-arrange-all-2 slice-aggregate-arrange-all-2 slice-relend-prefix-arrange-all-3 slice-aggregate-arrange-all-3 slice-relend-prefix-arrange-all-4 slice-aggregate-arrange-all-4 slice-relend-prefix-arrange-all-5 slice-aggregate-arrange-all-5 slice-relend-prefix-arrange-all-6 slice-aggregate-arrange-all-6 arrange-all-requires same-length same-length-2 same-length-3 same-length-4 same-length-5 same-length-6 returns)
+    (tie.spec
+    mul-m sub-blocks add-blocks slice-relend-prefix-arrange-all slice-aggregate-arrange-all slice-relend-prefix-arrange-all-2
+    slice-aggregate-arrange-all-2 slice-relend-prefix-arrange-all-3 slice-aggregate-arrange-all-3 slice-relend-prefix-arrange-all-4
+    slice-aggregate-arrange-all-4 slice-relend-prefix-arrange-all-5 slice-aggregate-arrange-all-5 slice-relend-prefix-arrange-all-6
+    slice-aggregate-arrange-all-6 arrange-all-requires same-length same-length-2 same-length-3 same-length-4 same-length-5 same-length-6 returns)

@@ -50,7 +50,12 @@ module _ (c : tie.After-enqueue Inv-loop μ-loop) where
   abbrev l : tie.In-loop Inv-loop μ-loop
   l = turn un
 
-  joined : let o = l .before .loop .order in let h = l .before .loop .head in let a = start l .args in Queued (n l) (removedOf o (h + 1)) (followAll (graphIn (n l) (a .r) (m l) (a .edges .now)) (removedOf o (h + 1)) (getD o h 0) (a .r) (waitingOf o (h + 1) (l .before .loop .t))) (c .enqueue .last .1 .1 .1 .1 .1 .1 .0) (c .enqueue .last .1 .1 .1 .1 .1 .1 .1 .0) (c .enqueue .result)
+  joined : let o = l .before .loop .order in
+      let h = l .before .loop .head in
+      let a = start l .args in
+      Queued (n l) (removedOf o (h + 1))
+      (followAll (graphIn (n l) (a .r) (m l) (a .edges .now)) (removedOf o (h + 1)) (getD o h 0) (a .r) (waitingOf o (h + 1) (l .before .loop .t)))
+      (c .enqueue .last .1 .1 .1 .1 .1 .1 .0) (c .enqueue .last .1 .1 .1 .1 .1 .1 .1 .0) (c .enqueue .result)
   joined = let k : l .before .loop .head + 1 - 1 ≡ l .before .loop .head = omega arith in rw (off un .forOrder, off un .wide .forDegrees, k) at (c .enqueue .ensures)
 
   next : let a = start l .args in Going (n l) (a .r) (m l) (a .edges .now) (un .unlink .last .1 .1 .1 .0) (un .unlink .last .1 .1 .1 .1 .0) (c .enqueue .last .1 .1 .1 .1 .1 .1 .0) (c .enqueue .last .1 .1 .1 .1 .1 .1 .1 .0) (l .before .loop .head + 1) (c .enqueue .result)
