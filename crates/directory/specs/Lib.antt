@@ -7,7 +7,7 @@ pub mod Values
 pub mod Leads
 pub mod File
 pub mod Building
-pub mod BuildingLaws
+pub mod GraphLaws
 pub mod Opening
 pub mod LookingUp
 pub mod Showing

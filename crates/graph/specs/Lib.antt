@@ -6,7 +6,7 @@ pub mod Group
 pub mod Within
 pub mod Agree
 pub mod Assignment
-pub mod Examples
+pub mod AFewGraphs
 pub mod DegreeLaws
 pub mod QueueLaws
 pub mod PeelingLaws

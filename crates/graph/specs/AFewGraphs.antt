@@ -1,4 +1,4 @@
--- Worked graphs that pin what peeling and assignment mean: one list, one theorem, computed. Assumes nothing.
+-- A few worked graphs that pin what peeling and assignment mean: one list, one theorem, computed. Assumes nothing.
 use mathlib.Core.Path.{_≡_, refl}
 use mathlib.Core.Bool.{Bool, true, false, _&&_}
 use mathlib.Core.List.{List, [], _∷_, map}
