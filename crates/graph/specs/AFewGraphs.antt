@@ -9,7 +9,7 @@ use Rattle.counting.specs.Below.{sum, any, lowest, those}
 use Rattle.counting.specs.Lists.{occurrences, same, every}
 use Rattle.graph.specs.Graph.{Graph, names, degreeIn}
 use Rattle.graph.specs.Peeling.{unremoved, joinBack, oneLeft, firstWaiting, follow, followAll, peel, removalList, leftOver, numberLeft}
-use Rattle.graph.specs.Assignment.{landing, assignedBelow, minusMod, fresh, firstUnvisited, visitedSum, assignEdge, assign, values, landingVertex, line}
+use Rattle.graph.specs.Assignment.{landing, assignedBelow, minusMod, fresh, firstUnvisited, visitedSum, assignEdge, assign, values, landingVertex, line, edgeOfLine}
 
 pub record Example : Type 0 where
   pub arity : ℕ
@@ -41,6 +41,7 @@ holds x =
     && eqb (numberLeft G) (x .left)
     && same (asFar acyclic (map (values G) (all (x .vertices)))) (x .values)
     && same (asFar acyclic (map (line G) (all (length (x .edges))))) (x .lines)
+    && same (asFar acyclic (map (λ e. edgeOfLine G (line G e)) (all (length (x .edges))))) (asFar acyclic (all (length (x .edges))))
 
 pub examples : List Example
 examples =
@@ -87,5 +88,5 @@ examples =
     ∷ []
 
 pub examples-hold : every holds examples ≡ true
-unfolding graph all asFar holds examples every sum any lowest those occurrences same names degreeIn unremoved joinBack oneLeft firstWaiting follow followAll peel removalList leftOver numberLeft landing assignedBelow minusMod fresh firstUnvisited visitedSum assignEdge assign values landingVertex line
+unfolding graph all asFar holds examples every sum any lowest those occurrences same names degreeIn unremoved joinBack oneLeft firstWaiting follow followAll peel removalList leftOver numberLeft landing assignedBelow minusMod fresh firstUnvisited visitedSum assignEdge assign values landingVertex line edgeOfLine
 examples-hold = refl

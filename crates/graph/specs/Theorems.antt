@@ -17,7 +17,7 @@ use Rattle.graph.specs.PeelingLaws.{reached-once, reached-room, reached-
 use Rattle.graph.specs.GroupLaws.{left-group, group-left, refused-exactly, largest-bound, largest-attained}
 use Rattle.graph.specs.AssignmentLaws.{values-most, drop-unassigned}
 use Rattle.graph.specs.LandingLaws.{landing-inside, landing-assigned, landing-own, assigned-exactly, assigned-number}
-use Rattle.graph.specs.LineLaws.{line-below, line-own, line-onto}
+use Rattle.graph.specs.LineLaws.{line-below, line-own, line-onto, edge-line, line-edge}
 use Rattle.graph.specs.WithinLaws.{within-left, within-number, within-none, same-number, same-left}
 use Rattle.graph.specs.AgreeLaws.{agree-left, agree-number, agree-values, agree-line, agree-edge}
 
@@ -112,6 +112,14 @@ module _ (G : Graph) where
     -- each line below the number of edges is the line of some edge
     pub every-line-is-taken : (l : ℕ) → l < edges → (e : ℕ) × (e < edges) × (line G e ≡ l)
     every-line-is-taken = line-onto G ok nothing
+
+    -- the edge of a line is an edge, and has that line
+    pub the-edge-of-a-line-has-it : (l : ℕ) → l < edges → (edgeOfLine G l < edges) × (line G (edgeOfLine G l) ≡ l)
+    the-edge-of-a-line-has-it = edge-line G ok nothing
+
+    -- and each edge is that of its line
+    pub each-edge-is-that-of-its-line : (e : ℕ) → e < edges → edgeOfLine G (line G e) ≡ e
+    each-edge-is-that-of-its-line = line-edge G ok nothing
 
 -- ---- only the set of edges matters: here the edges of G are, under `to`, among those of H
 

@@ -4,19 +4,16 @@ use mathlib.Core.Path.{_≡_, sym, ap, _∙_}
 use mathlib.Core.List.{List, _++_}
 use Prim.Native.Nat.{ℕ, _+_, _*_, _%_, _≤_, _<_}
 use native.Mathlib.Omega.{arith}
-use lib.Dec.{eqb}
 use lib.ListN.{length, getD, take}
 use lib.Seq.{take-all, length-take-le}
-use borrow.Author.Tests.{eqb-true, eq-eqb}
 use Rattle.counting.specs.Below.{bit}
 use Rattle.counting.specs.BelowLaws.{sum-equal}
-use Rattle.counting.specs.SearchLaws.{lowest-some}
 use Rattle.graph.specs.Graph.{Graph}
 use Rattle.graph.specs.Peeling.{numberLeft}
 use Rattle.graph.specs.Assignment.{assigned, landing, assignedBelow, blockSize, blocks, rankEntry, values, landingVertex, line, edgeOfLine}
 use Rattle.graph.specs.PeelingLaws.{left-and-removed}
 use Rattle.graph.specs.LandingLaws.{landing-inside}
-use Rattle.graph.specs.LineLaws.{line-below, line-own, line-onto}
+use Rattle.graph.specs.LineLaws.{line-below, line-own, edge-line}
 use Rattle.removal.specs.Arrays.{graphIn, vertexAt, Held, Wide, Holds}
 use Rattle.removal.specs.HoldsLaws.{holds-front}
 use Rattle.removal.specs.TallyLaws.{held-vertices}
@@ -71,12 +68,7 @@ module _ {n r m : ℕ} {edges : List ℕ} (held : Held n r m edges) (nothing : n
   ranks-are R h b l = h b l ∙ below-is (blockSize * b) (block-start m b l)
 
   pub keys-are : (K : List ℕ) → Keyed n r edges W B K → Holds n (edgeOfLine G) K
-  unfolding edgeOfLine
-  keys-are K h l a =
-      let w = line-onto G (held .proper) nothing l a in
-      let s = lowest-some n (λ e. eqb (line G e) l) (w .0) (w .1) (eq-eqb _ _ (w .2)) in
-      let own : line G (edgeOfLine G l) ≡ l = eqb-true _ _ (s .1) in
-      ap (λ i. getD K i 0) (sym own ∙ sym (line-is (edgeOfLine G l) (s .0))) ∙ h (edgeOfLine G l) (s .0)
+  keys-are K h l a = let w = edge-line G (held .proper) nothing l a in ap (λ i. getD K i 0) (sym (line-is (edgeOfLine G l) (w .0) ∙ w .1)) ∙ h (edgeOfLine G l) (w .0)
 
 -- ---- the arrays may be the starts of longer ones
 
