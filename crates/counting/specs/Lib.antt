@@ -6,3 +6,5 @@ pub mod SearchLaws
 pub mod Lists
 pub mod ListsLaws
 pub mod OccurrenceLaws
+pub mod Holds
+pub mod HoldsLaws

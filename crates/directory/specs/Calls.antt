@@ -5,7 +5,7 @@ use Prim.Native.Nat.{ℕ}
 use Rattle.directory.specs.declared.Built.{Built}
 use Rattle.directory.specs.declared.Opening.{Opening}
 use Rattle.directory.specs.declared.Found.{Found}
-use Rattle.directory.specs.Sizes.{Header, headerAllowed}
+use Rattle.directory.specs.Sizes.{headed, headerAllowed}
 use Rattle.directory.specs.Kind.{Kind, HD}
 use Rattle.directory.specs.File.{fileLength}
 use Rattle.directory.specs.Building as building
@@ -20,7 +20,7 @@ kindOf f = HD
 
 -- the length of the file for n, r and v, and 0, which no file has, where the sizes do not allow them
 unfoldable pub lengthOf : ℕ → ℕ → ℕ → ℕ
-lengthOf n r v = let h : Header = record { n = n; r = r; v = v } in cond (headerAllowed h) (fileLength HD h) 0
+lengthOf n r v = cond (headerAllowed (headed n r v)) (fileLength HD (headed n r v)) 0
 
 -- building: the answer, and the buffer afterwards
 unfoldable pub buildOf : building.Lent → Built

@@ -3,11 +3,12 @@ use mathlib.Core.List.{List, _∷_, _++_}
 use Prim.Native.Nat.{ℕ, _+_, _-_, _*_}
 use lib.ListN.{length, take, drop, replicate}
 use Rattle.counting.specs.Lists.{each}
+use Rattle.directory.specs.declared.Lead.{Lead}
 use Rattle.directory.specs.Sizes.{Header}
 use Rattle.directory.specs.Bytes.{two, byteAt, twoAt, markLength, WT, KY, under}
 use Rattle.directory.specs.Kind.{Kind, vertex}
 use Rattle.directory.specs.Values.{tableRecords, tableSize}
-use Rattle.directory.specs.Leads.{Lead, leadOf}
+use Rattle.directory.specs.Leads.{leadOf}
 
 -- the mark and n (2 bytes), r (1), v (2)
 abbrev pub headerLength : ℕ

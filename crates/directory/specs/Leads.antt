@@ -3,16 +3,12 @@ use mathlib.Core.Bool.{Bool, false, cond}
 use Prim.Native.Nat.{ℕ, _/_}
 use lib.Dec.{eqb, ltb}
 use Rattle.graph.specs.Assignment.{assigned, landing, blockSize}
+use Rattle.directory.specs.declared.Lead.{Lead}
+use Rattle.directory.specs.declared.Lead.the-variants.{Nowhere, ToLine, PastLast}
 use Rattle.directory.specs.Sizes.{Header}
 use Rattle.directory.specs.Values.{valueIn, lineIn}
 
--- to no line, its landing vertex being unassigned; to a line below n; or to a line of n or more, by a rank entry
-pub data Lead : Type 0 where
-  Nowhere : Lead
-  ToLine : ℕ → Lead
-  PastLast : ℕ → Lead
-
--- the code with the vertices vertex 0, vertex 1, .., by the bytes T from the mark of GV on
+-- the code with the vertices vertex 0, vertex 1, .., by the bytes T from the mark of GV on: to no line where its landing vertex is unassigned; otherwise to that vertex's line, which may be n or more
 unfoldable pub leadOf : Header → (ℕ → ℕ) → (ℕ → ℕ) → Lead
 leadOf h T vertex =
     let y = landing (h .r) (valueIn T) vertex in

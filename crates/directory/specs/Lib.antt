@@ -8,6 +8,7 @@ pub mod Leads
 pub mod File
 pub mod Building
 pub mod GraphLaws
+pub mod Whole
 pub mod Opening
 pub mod LookingUp
 pub mod Showing

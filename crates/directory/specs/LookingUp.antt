@@ -7,11 +7,12 @@ use lib.ListN.{length}
 use Rattle.counting.specs.Lists.{same}
 use Rattle.directory.specs.declared.Found.{Found}
 use Rattle.directory.specs.declared.Found.the-variants.{At, Unknown, Refused}
+use Rattle.directory.specs.declared.Lead.{Lead}
+use Rattle.directory.specs.declared.Lead.the-variants.{Nowhere, ToLine, PastLast}
 use Rattle.directory.specs.Sizes.{Header}
 use Rattle.directory.specs.Codes.{wrongLength}
 use Rattle.directory.specs.Kind.{Kind}
 use Rattle.directory.specs.Refusals.{Refusal, first}
-use Rattle.directory.specs.Leads.{Lead, Nowhere, ToLine, PastLast}
 use Rattle.directory.specs.File.{headerIn, keyLength, storedCode, leadIn}
 use Rattle.directory.specs.Opening.{headerRefusals}
 

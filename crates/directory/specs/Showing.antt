@@ -1,9 +1,11 @@
 -- Showing a line: the code's bytes as a part of the caller's file. Assumes nothing.
+use mathlib.Core.Path.{_≡_}
 use mathlib.Core.Bool.{not, _||_, cond}
 use mathlib.Core.List.{List}
-use Prim.Native.Nat.{ℕ}
+use Prim.Native.Nat.{ℕ, _+_}
 use lib.Dec.{ltb}
 use lib.ListN.{take, drop}
+use denote.Ref.{RefT, ptr, now}
 use Rattle.directory.specs.Sizes.{Header}
 use Rattle.directory.specs.Codes.{wrongLength}
 use Rattle.directory.specs.Kind.{Kind}
@@ -22,6 +24,12 @@ emptyPart = record { start = 0; size = 0 }
 
 abbrev pub bytesOf : List ℕ → Part → List ℕ
 bytesOf f part = take (part .size) (drop (part .start) f)
+
+-- a slice is this part of the file's slice: it has those bytes, and it starts in the same block, so many bytes further on
+pub record IsPart (slice file : RefT (List ℕ)) (part : Part) : Type 0 where
+  pub bytes : now slice ≡ bytesOf (now file) part
+  pub block : ptr slice .0 ≡ ptr file .0
+  pub from : ptr slice .1 ≡ part .start + ptr file .1
 
 -- the code of line l; nothing where the line is n or more, or the stored length is 0 or over 32
 unfoldable pub keyPart : Kind → Header → List ℕ → ℕ → Part

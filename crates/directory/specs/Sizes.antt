@@ -28,6 +28,10 @@ pub record Header : Type 0 where
   pub r : ℕ
   pub v : ℕ
 
+-- the header with the numbers n, r and v
+abbrev pub headed : ℕ → ℕ → ℕ → Header
+headed n r v = record { n = n; r = r; v = v }
+
 unfoldable pub headerAllowed : Header → Bool
 headerAllowed h = codesAllowed (h .n) && arityAllowed (h .r) && partAllowed (h .r) (h .v)
 

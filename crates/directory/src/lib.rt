@@ -1,4 +1,4 @@
-// What a directory is: the answers of the calls here, and their meaning in specs/. No code.
+// What a directory is: the answers here, and their meaning in specs/. No code.
 
 // Building: success, or a refusal's number and place.
 pub enum Built {
@@ -17,6 +17,13 @@ pub enum Found {
     At(usize),
     Unknown,
     Refused(u8, usize),
+}
+
+// Where a code leads by the stored values: to no line, to a line below n, or by a rank entry to a line of n or more.
+pub enum Lead {
+    Nowhere,
+    ToLine(usize),
+    PastLast(usize),
 }
 
 // The group that a refusal number belongs to.

@@ -6,7 +6,8 @@ use lib.ListN.{length}
 use Rattle.graph.specs.Graph.{Graph}
 use Rattle.graph.specs.Peeling.{numberLeft}
 use Rattle.graph.specs.Assignment.{blocks, rankEntry, values, edgeOfLine}
-use Rattle.removal.specs.Arrays.{Held, Holds}
+use Rattle.counting.specs.Holds.{Holds}
+use Rattle.removal.specs.Arrays.{Held}
 
 -- the arrays are long enough for n edges and m vertices
 pub record LongEnough (n m : ℕ) (degrees sums order values rank keys : List ℕ) : Type 0 where

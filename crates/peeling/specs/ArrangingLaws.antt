@@ -14,8 +14,9 @@ use Rattle.graph.specs.Assignment.{assigned, landing, assignedBelow, blockSize,
 use Rattle.graph.specs.PeelingLaws.{left-and-removed}
 use Rattle.graph.specs.LandingLaws.{landing-inside}
 use Rattle.graph.specs.LineLaws.{line-below, line-own, edge-line}
-use Rattle.removal.specs.Arrays.{graphIn, vertexAt, Held, Wide, Holds}
-use Rattle.removal.specs.HoldsLaws.{holds-front}
+use Rattle.counting.specs.Holds.{Holds}
+use Rattle.removal.specs.Arrays.{graphIn, vertexAt, Held, Wide}
+use Rattle.counting.specs.HoldsLaws.{holds-front}
 use Rattle.removal.specs.TallyLaws.{held-vertices}
 use Rattle.removal.specs.Queue.{Removed}
 use Rattle.peeling.specs.Assigning.{AllRemoved}

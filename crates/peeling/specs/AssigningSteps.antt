@@ -22,7 +22,8 @@ use Rattle.graph.specs.PeelingLaws.{removal-length, removal-once}
 use Rattle.graph.specs.OrderLaws.{Leads, removal-ordered, ordered-at}
 use Rattle.graph.specs.AssignmentLaws.{new-place, new-value, other-value}
 use Rattle.graph.specs.PutBackLaws.{removal-split, sum-visited, first-of-degree-none}
-use Rattle.removal.specs.Arrays.{graphIn, vertexAt, Held, Wide, Holds, Tallied}
+use Rattle.counting.specs.Holds.{Holds}
+use Rattle.removal.specs.Arrays.{graphIn, vertexAt, Held, Wide, Tallied}
 use Rattle.removal.specs.TallyLaws.{held-vertices, tallied-more, tallied-room}
 use Rattle.peeling.specs.Assigning.{freeOf, givenBy, Free, Given, AllRemoved}
 

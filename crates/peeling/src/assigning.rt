@@ -7,7 +7,8 @@ ghost use Prim.Native.Nat.{_<_};
 ghost use lib.ListN.{length, getD};
 ghost use Rattle.counting.specs.Below.{sum};
 ghost use Rattle.graph.specs.Assignment.{values as valuesOf};
-ghost use Rattle.removal.specs.Arrays.{oneByte, vertexAt, graphIn, Vertices, Holds};
+ghost use Rattle.counting.specs.Holds.{Holds};
+ghost use Rattle.removal.specs.Arrays.{oneByte, vertexAt, graphIn, Vertices};
 ghost use Rattle.peeling.specs.Assigning.{Free, Given, AllRemoved};
 
 // No vertex is assigned.

@@ -5,6 +5,7 @@ use mathlib.Core.List.{List}
 use Prim.Native.Nat.{ℕ, _+_, _*_, _≤_, _<_}
 use lib.ListN.{length, getD}
 use Rattle.counting.specs.Below.{sum, bit}
+use Rattle.counting.specs.Holds.{Holds}
 use Rattle.graph.specs.Graph.{Graph, Proper, names, degreeIn}
 
 -- what two bytes, and one, do not hold any more
@@ -13,10 +14,6 @@ twoBytes = 65536
 
 abbrev pub oneByte : ℕ
 oneByte = 256
-
--- the first k entries of an array are f 0, f 1, ..
-abbrev pub Holds : ℕ → (ℕ → ℕ) → List ℕ → Type 0
-Holds k f array = (i : ℕ) → i < k → getD array i 0 ≡ f i
 
 -- vertex j of edge e stands at e * r + j
 abbrev pub vertexAt : ℕ → List ℕ → ℕ → ℕ → ℕ

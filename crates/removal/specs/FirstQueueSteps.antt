@@ -16,8 +16,9 @@ use Rattle.counting.specs.Lists.{occurrences}
 use Rattle.counting.specs.OccurrenceLaws.{those-once}
 use Rattle.graph.specs.Graph.{Graph}
 use Rattle.graph.specs.Peeling.{degree, firstWaiting}
-use Rattle.removal.specs.Arrays.{vertexAt, graphIn, Held, Holds}
-use Rattle.removal.specs.HoldsLaws.{holds-none, holds-more}
+use Rattle.counting.specs.Holds.{Holds}
+use Rattle.removal.specs.Arrays.{vertexAt, graphIn, Held}
+use Rattle.counting.specs.HoldsLaws.{holds-none, holds-more}
 use Rattle.removal.specs.Queue.{Queued}
 
 -- edge e has a vertex of degree 1 before anything is removed

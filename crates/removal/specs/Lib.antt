@@ -1,5 +1,4 @@
 pub mod Arrays
-pub mod HoldsLaws
 pub mod Linking
 pub mod LinkingSteps
 pub mod TallyLaws

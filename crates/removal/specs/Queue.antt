@@ -7,7 +7,8 @@ use Rattle.counting.specs.Lists.{occurrences}
 use Rattle.graph.specs.Graph.{Graph}
 use Rattle.graph.specs.Peeling.{unremoved, firstWaiting, removalList}
 use Rattle.graph.specs.Moment.{Sound}
-use Rattle.removal.specs.Arrays.{graphIn, Held, Wide, Holds, Tallied}
+use Rattle.counting.specs.Holds.{Holds}
+use Rattle.removal.specs.Arrays.{graphIn, Held, Wide, Tallied}
 
 -- the removed edges stand before `head`, those that wait from there up to `tail`
 abbrev pub removedOf : List ℕ → ℕ → List ℕ

@@ -7,7 +7,8 @@ ghost use mathlib.Core.List.{[]};
 ghost use Prim.Native.Nat.{_-_};
 ghost use lib.ListN.{length, getD};
 ghost use Rattle.graph.specs.Peeling.{degree, firstWaiting, followAll};
-ghost use Rattle.removal.specs.Arrays.{Held, graphIn, Holds};
+ghost use Rattle.counting.specs.Holds.{Holds};
+ghost use Rattle.removal.specs.Arrays.{Held, graphIn};
 ghost use Rattle.removal.specs.Queue.{Ready, Queued, Bounds, Starts, Removed, removedOf, waitingOf};
 
 // The first queue: every edge, in list order, that has a vertex of degree 1. Returns its length, and marks the edges in it.

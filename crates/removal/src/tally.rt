@@ -6,7 +6,8 @@ ghost use lib.Dec.{eqb};
 ghost use lib.ListN.{length, getD};
 ghost use Rattle.counting.specs.Below.{lowest};
 ghost use Rattle.graph.specs.Peeling.{unremoved};
-ghost use Rattle.removal.specs.Arrays.{Held, graphIn, vertexAt, Vertices, Holds, Tallied};
+ghost use Rattle.counting.specs.Holds.{Holds};
+ghost use Rattle.removal.specs.Arrays.{Held, graphIn, vertexAt, Vertices, Tallied};
 ghost use Rattle.removal.specs.Linking.{Room, Enough, Added};
 
 // No edge on any vertex.

@@ -5,7 +5,7 @@ use Prim.Native.Nat.{ℕ}
 use native.Mathlib.Omega.{arith}
 use lib.ListN.{length, getD}
 use Rattle.graph.specs.Assignment.{assignedBelow}
-use Rattle.removal.specs.Arrays.{Holds}
+use Rattle.counting.specs.Holds.{Holds}
 use Rattle.peeling.specs.Ranking.{Distinct}
 use Rattle.peeling.specs.ArrangingLaws.{lines-distinct, ranks-are, keys-are}
 use Rattle.peeling.proofs.give_lines.Statement.{statement}

@@ -6,8 +6,8 @@ use native.Mathlib.Omega.{arith}
 use lib.ListN.{length, getD, length-set}
 use Rattle.counting.specs.Below.{sum}
 use Rattle.graph.specs.Assignment.{assignedBelow}
-use Rattle.removal.specs.Arrays.{Holds}
-use Rattle.removal.specs.HoldsLaws.{holds-none, holds-more}
+use Rattle.counting.specs.Holds.{Holds}
+use Rattle.counting.specs.HoldsLaws.{holds-none, holds-more}
 use Rattle.peeling.specs.RankingSteps.{assigned-most, assigned-counts, unassigned-counts-not}
 use Rattle.peeling.proofs.ranking.count_assigned.Statement.{statement}
 use Rattle.peeling.proofs.ranking.count_assigned.Tie as tie

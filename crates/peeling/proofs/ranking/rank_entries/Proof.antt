@@ -4,8 +4,8 @@ use Prim.Native.Nat.{_-_, _*_, _≤_, _<_}
 use native.Mathlib.Omega.{arith}
 use lib.ListN.{length, getD, length-set}
 use Rattle.graph.specs.Assignment.{blockSize}
-use Rattle.removal.specs.Arrays.{Holds}
-use Rattle.removal.specs.HoldsLaws.{holds-none, holds-more}
+use Rattle.counting.specs.Holds.{Holds}
+use Rattle.counting.specs.HoldsLaws.{holds-none, holds-more}
 use Rattle.peeling.specs.RankingSteps.{block-start}
 use Rattle.peeling.proofs.ranking.rank_entries.Statement.{statement}
 use Rattle.peeling.proofs.ranking.rank_entries.Tie as tie

@@ -4,8 +4,8 @@ use Prim.Native.Nat.{_-_, _≤_}
 use native.Mathlib.Omega.{arith}
 use borrow.Author.Needs.{needs}
 use lib.ListN.{length, length-set}
-use Rattle.removal.specs.Arrays.{Holds}
-use Rattle.removal.specs.HoldsLaws.{holds-none, holds-more}
+use Rattle.counting.specs.Holds.{Holds}
+use Rattle.counting.specs.HoldsLaws.{holds-none, holds-more}
 use Rattle.removal.proofs.tally.clear.Statement.{statement}
 use Rattle.removal.proofs.tally.clear.Tie as tie
 

@@ -6,8 +6,8 @@ use Prim.Native.Nat.{ℕ, _+_, _≤_, _<_}
 use native.Mathlib.Omega.{arith}
 use lib.ListN.{length, getD, set, List·getD-append}
 use lib.Seq.{getD-set-same, getD-set-other}
 use Rattle.counting.specs.TestLaws.{eq?}
-use Rattle.removal.specs.Arrays.{Holds}
+use Rattle.counting.specs.Holds.{Holds}
 
 pub holds-none : (f : ℕ → ℕ) (array : List ℕ) → Holds 0 f array
 holds-none f array i l = absurd (omega arith)
