@@ -3,9 +3,22 @@ use mathlib.Core.Path.{_≡_, refl, sym, ap, _∙_}
 use mathlib.Core.Logic.{⊎-elim, _≢_}
 use Prim.Native.Nat.{ℕ, zero, suc, _+_, _*_, _%_, _≤_, _<_, zero-le}
 use native.Mathlib.Nat.{mul-zero, mul-suc, mul-comm, add-mod}
+use native.Mathlib.Numerals.{add-one}
 use native.Mathlib.Omega.{arith}
 use Rattle.counting.specs.TestLaws.{eq?}
 use Rattle.counting.specs.Below.{sum}
+
+-- ---- one term after the other, as a loop adds them
+
+pub sum-none : (f : ℕ → ℕ) → sum 0 f ≡ 0
+unfolding sum
+sum-none f = refl
+
+pub sum-next : (k : ℕ) (f : ℕ → ℕ) → sum (k + 1) f ≡ sum k f + f k
+unfolding sum
+sum-next k f = rw (add-one k)
+
+-- ---- all terms together
 
 pub sum-mono : (k : ℕ) (f g : ℕ → ℕ) → ((i : ℕ) → i < k → f i ≤ g i) → sum k f ≤ sum k g
 unfolding sum

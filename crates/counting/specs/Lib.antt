@@ -6,5 +6,6 @@ pub mod SearchLaws
 pub mod Lists
 pub mod ListsLaws
 pub mod OccurrenceLaws
+pub mod Widths
 pub mod Holds
 pub mod HoldsLaws

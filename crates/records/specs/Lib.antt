@@ -1,0 +1,3 @@
+pub mod Standing
+pub mod StandingLaws
+pub mod ReadingSteps
