@@ -22,7 +22,7 @@ values-at-requires : tie.Need-values-at-requires Inv-loop μ-loop
 values-at-requires c κs = search needs
 
 loop-holds : tie.Need-loop-holds Inv-loop μ-loop
-loop-holds c = (omega arith, refl, holds-none _ _, sym (values-none _ _ _ _), omega arith)
+loop-holds c = let a = c .before .before .before .before .args in (omega arith, refl, holds-none (vertexIn (a .file .now) (a .v) (a .code .now)) (a .vertices .now), sym (values-none (a .file .now) (a .r) (a .v) (a .code .now)), omega arith)
 
 abbrev start : tie.At-loop Inv-loop μ-loop → tie.Start Inv-loop μ-loop
 start c = c .before .before .before .before .before
