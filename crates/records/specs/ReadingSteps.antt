@@ -110,5 +110,5 @@ module _ (f : List ℕ) (at : ℕ) (t : List ℕ) where
       let s = take (length t) (drop at f) in
       let e : length s ≡ length t = length-take-le (length t) (drop at f) (rw (length-drop at f) (omega arith)) in
       let q : unequal (length t) ≡ count (length t) (λ i. not (eqb (getD s i 0) (getD t i 0))) =
-        sum-equal (length t) _ _ (λ i m. ap (λ x. bit (not (eqb x (getD t i 0)))) (sym (getD-take (length t) (drop at f) i 0 m ∙ getD-drop at f i 0))) in
+      sum-equal (length t) _ _ (λ i m. ap (λ x. bit (not (eqb x (getD t i 0)))) (sym (getD-take (length t) (drop at f) i 0 m ∙ getD-drop at f i 0))) in
       ap (λ k. eqb k 0) q ∙ sym (same-none-unequal s t e)
