@@ -17,6 +17,10 @@ pub mod Answers
 pub mod Calls
 pub mod SizeLaws
 pub mod KindLaws
+pub mod BytesLaws
+pub mod ValueLaws
+pub mod FileLaws
+pub mod TableLaws
 pub mod Computing
 pub mod Sayings
 pub mod Cases
