@@ -20,7 +20,7 @@ pub mod KindLaws
 pub mod BytesLaws
 pub mod ValueLaws
 pub mod FileLaws
-pub mod TableLaws
+pub mod FileTableLaws
 pub mod Computing
 pub mod Sayings
 pub mod Cases
