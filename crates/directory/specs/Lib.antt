@@ -3,13 +3,17 @@ pub mod Codes
 pub mod Kind
 pub mod Bytes
 pub mod Refusals
+pub mod RefusalLaws
 pub mod Values
 pub mod Leads
 pub mod File
 pub mod Building
 pub mod GraphLaws
+pub mod TableLaws
+pub mod LeadLaws
 pub mod Whole
 pub mod Opening
+pub mod WholeLaws
 pub mod LookingUp
 pub mod Showing
 pub mod Listing
