@@ -1,5 +1,6 @@
 pub mod Sizes
 pub mod Codes
+pub mod CodesLaws
 pub mod Kind
 pub mod Bytes
 pub mod Refusals
@@ -14,8 +15,13 @@ pub mod LeadLaws
 pub mod Whole
 pub mod Opening
 pub mod WholeLaws
+pub mod OpeningLaws
 pub mod LookingUp
+pub mod KeyLaws
+pub mod LookupLaws
 pub mod Showing
+pub mod ShowingLaws
+pub mod OpenedLaws
 pub mod Listing
 pub mod Answers
 pub mod Calls

@@ -13,6 +13,7 @@ use Rattle.counting.specs.SearchLaws.{any-none, any-false}
 use Rattle.directory.specs.declared.Lead.the-variants.{ToLine, PastLast}
 use Rattle.directory.specs.Sizes.{Header, mostVertices, mostCodes, arityAllowed, partAllowed, codesAllowed, headerAllowed, vertexCount}
 use Rattle.directory.specs.Codes.{wrongLength}
+use Rattle.directory.specs.CodesLaws.{length-right}
 use Rattle.directory.specs.Kind.{Kind, vertex}
 use Rattle.directory.specs.KindLaws.{vertex-below}
 use Rattle.directory.specs.Refusals.{NoneApplies}
@@ -51,16 +52,6 @@ sized-true h t =
 pub true-sized : (h : Header) → Sized h → headerAllowed h ≡ true
 unfolding headerAllowed codesAllowed partAllowed
 true-sized h s = and-both (and-both (le-leb _ _ (s .few)) (true-arity (h .r) (s .two) (s .three))) (and-both (lt-ltb _ _ (s .some)) (le-leb _ _ (s .room)))
-
--- ---- lengths of codes
-
-pub length-right : (most k : ℕ) → wrongLength most k ≡ false → (1 ≤ k) × (k ≤ most)
-unfolding wrongLength
-length-right most k t = let d = eqb-false k 0 (or-neither (eqb k 0) _ t) in (omega arith, ltb-false most k (or-neither-second (eqb k 0) _ t))
-
-pub right-length : {most k : ℕ} → 1 ≤ k → k ≤ most → wrongLength most k ≡ false
-unfolding wrongLength
-right-length {most} {k} a b = or-none (ne-eqb k 0 (omega arith)) (le-ltb most k b)
 
 module _ (K : Kind) (h : Header) (f : List ℕ) where
   open Kind K using (positions)
@@ -105,7 +96,7 @@ module _ (K : Kind) (h : Header) (f : List ℕ) where
   pub key : (l : ℕ) → keyWrong K h f l ≡ false → Key K h f l
   unfolding keyWrong fillingSet
   key l t =
-      let k = length-right positions (keyLength K h f l) (or-neither (wrongLength positions (keyLength K h f l)) _ t) in
+      let k = length-right positions (keyLength K h f l) .0 (or-neither (wrongLength positions (keyLength K h f l)) _ t) in
       record {
         some = k .0;
         most = k .1;
@@ -114,7 +105,7 @@ module _ (K : Kind) (h : Header) (f : List ℕ) where
 
   pub key-back : (l : ℕ) → Key K h f l → keyWrong K h f l ≡ false
   unfolding keyWrong fillingSet
-  key-back l w = or-none (right-length (w .some) (w .most)) (any-none _ _ (λ i m. ap not (eq-eqb _ _ (w .filling i m))))
+  key-back l w = or-none (length-right positions _ .1 (w .some, w .most)) (any-none _ _ (λ i m. ap not (eq-eqb _ _ (w .filling i m))))
 
   -- ---- 15, in a file whose header, values and rank entries are right
 
