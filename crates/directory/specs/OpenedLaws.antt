@@ -2,12 +2,11 @@
 use mathlib.Core.Path.{_≡_, refl, sym, ap, _∙_}
 use mathlib.Core.Logic.{_⊎_, inl, inr, ⊎-elim, _≢_, _↔_}
 use mathlib.Core.Bool.{Bool, true, false}
-use mathlib.Core.List.{List, [], _∷_}
+use mathlib.Core.List.{List, []}
 use Prim.Native.Nat.{ℕ, _≤_, _<_}
 use native.Mathlib.Omega.{arith}
 use lib.ListN.{length}
 use Rattle.counting.specs.TestLaws.{never-true}
-use Rattle.directory.specs.declared.Found.{Found}
 use Rattle.directory.specs.declared.Found.the-variants.{At, Unknown, Refused}
 use Rattle.directory.specs.declared.Lead.{Lead}
 use Rattle.directory.specs.declared.Lead.the-variants.{Nowhere, ToLine, PastLast}
@@ -25,7 +24,7 @@ use Rattle.directory.specs.WholeLaws.{framed-back, leads-back, leads-nev
 use Rattle.directory.specs.KeyLaws.{stored-length}
 use Rattle.directory.specs.LookingUp.{lookupRefusals, found, lookup}
 use Rattle.directory.specs.LookupLaws.{holds-code, found-past, lookup-line, lookup-below}
-use Rattle.directory.specs.Showing.{shown, ShowsCode, pastLast}
+use Rattle.directory.specs.Showing.{shown, pastLast}
 use Rattle.directory.specs.ShowingLaws.{shown-stored, shown-empty}
 
 -- ---- where codes lead
@@ -86,11 +85,6 @@ module _ (K : Kind) (f : List ℕ) (w : Whole K (headerIn f) f) where
       own : l < h .n → lookup K f (storedCode K h f l) ≡ At l
       own m = lookup-line K f (storedCode K h f l) l .1 (none-applies _ (stored-some K h f w l m) (stored-most K h f w l m), stored-leads K h f w l m, sym (stored-size K h f w l m), refl)
 
-  -- every other code of 1 to 32 bytes is unknown
-  pub lookup-unknown : (t : List ℕ) → 1 ≤ length t → length t ≤ positions → ((l : ℕ) → l < h .n → storedCode K h f l ≢ t) → lookup K f t ≡ Unknown
-  unfolding lookup
-  lookup-unknown t a b d = first-none _ Refused _ (none-applies t a b) ∙ found-unknown K h f w t d
-
   -- a refusal is 16, and is given exactly to a code that is empty or over 32 bytes
   pub lookup-sixteen : (t : List ℕ) → wrongLength positions (length t) ≡ true → lookup K f t ≡ Refused 16 0
   unfolding lookup lookupRefusals
@@ -106,6 +100,17 @@ module _ (K : Kind) (f : List ℕ) (w : Whole K (headerIn f) f) where
           let c = length-right positions (length t) .0 u in
           let d = found-past K h f t (leadIn K h f t) k p (sym (first-none _ Refused _ (none-applies t (c .0) (c .1))) ∙ e) in
           absurd (leads-never-past K h f (w .framed .sizes) (w .table) t p (d .1))
+
+  -- every other code is unknown
+  pub lookup-unknown : (t : List ℕ) → (lookup K f t ≡ Unknown) ↔ ((1 ≤ length t) × (length t ≤ positions) × ((l : ℕ) → l < h .n → storedCode K h f l ≢ t))
+  unfolding lookup
+  lookup-unknown t = (λ e. there e (wrongLength positions (length t)) refl, λ c. first-none _ Refused _ (none-applies t (c .0) (c .1)) ∙ found-unknown K h f w t (c .2))
+    where
+      there : lookup K f t ≡ Unknown → (b : Bool) → wrongLength positions (length t) ≡ b → (1 ≤ length t) × (length t ≤ positions) × ((l : ℕ) → l < h .n → storedCode K h f l ≢ t)
+      there e true u = absurd (let i = lookup-sixteen t u in let z : _≡_ {A = ℕ} 0 1 = cc in omega arith)
+      there e false u =
+          let c = length-right positions (length t) .0 u in
+          (c .0, c .1, λ l m s. let i = lookup-stored t l .1 (m, s) in let z : _≡_ {A = ℕ} 0 1 = cc in omega arith)
 
   -- a line below n shows the code that is stored there, any other nothing
   pub shows-stored : (l : ℕ) → l < h .n → shown K f l ≡ storedCode K h f l

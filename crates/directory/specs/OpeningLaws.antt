@@ -1,5 +1,5 @@
 -- What opening, and the header alone, give on any bytes, as facts. Assumes nothing.
-use mathlib.Core.Path.{_≡_, refl, sym, ap, _∙_}
+use mathlib.Core.Path.{_≡_, sym, ap, _∙_}
 use mathlib.Core.Logic.{_≢_, _↔_}
 use mathlib.Core.List.{List}
 use Prim.Native.Nat.{ℕ}

@@ -1,6 +1,6 @@
 -- What showing gives on any bytes, as facts. Assumes nothing.
 use mathlib.Core.Path.{_≡_, refl, sym, ap, _∙_}
-use mathlib.Core.Logic.{_⊎_, inl, inr, ⊎-elim, _↔_}
+use mathlib.Core.Logic.{_⊎_, inl, inr, ⊎-elim, _≢_, _↔_}
 use mathlib.Core.Bool.{Bool, true, false, not, _||_}
 use mathlib.Core.List.{List, []}
 use Prim.Native.Nat.{ℕ, _≤_, _<_}
@@ -13,7 +13,7 @@ use Rattle.directory.specs.Sizes.{Header}
 use Rattle.directory.specs.Codes.{wrongLength}
 use Rattle.directory.specs.CodesLaws.{length-wrong, length-right}
 use Rattle.directory.specs.Kind.{Kind}
-use Rattle.directory.specs.Refusals.{NoneApplies, Given}
+use Rattle.directory.specs.Refusals.{NoneApplies}
 use Rattle.directory.specs.RefusalLaws.{first-none, given-first, given-or-none}
 use Rattle.directory.specs.File.{headerIn, codeAt, keyLength, storedCode}
 use Rattle.directory.specs.Opening.{headerRefusals}
@@ -75,3 +75,6 @@ module _ (K : Kind) (f : List ℕ) (l : ℕ) where
   pub shown-empty : (shown K f l ≡ []) ↔ ShowsNothing K f l
   unfolding shown
   shown-empty = (λ e. ⊎-elim (λ w. w) (λ w. let i : k ≡ 0 = sym (shown-length w) ∙ ap length e in absurd (omega (arith, w .some))) nothing-or-code, λ w. rw (shown-nothing w))
+
+  pub shown-bytes : shown K f l ≢ [] → (1 ≤ length (shown K f l)) × (length (shown K f l) ≤ positions)
+  shown-bytes d = ⊎-elim (λ w. absurd (d (shown-empty .1 w))) (λ w. rw (shown-length w) (w .some, w .most)) nothing-or-code
