@@ -1,0 +1,2 @@
+pub mod RefusalSteps
+pub mod MarkSteps

@@ -2,3 +2,4 @@ pub mod Standing
 pub mod StandingLaws
 pub mod ReadingSteps
 pub mod LeadLaws
+pub mod FramedLaws
