@@ -43,7 +43,7 @@ unfolding sum
 sum-add zero f g = refl
 sum-add (suc k) f g = omega (arith, sum-add k f g)
 
--- the first a parts, and then b more
+-- the first a parts and the b after them
 pub sum-split : (a b : ℕ) (f : ℕ → ℕ) → sum (a + b) f ≡ sum a f + sum b (λ i. f (a + i))
 unfolding sum
 sum-split a zero f = rw add-zero (omega arith)
