@@ -1,21 +1,24 @@
 -- The answer by a table of refusals, row by row: a row that applies is given, any other is passed. Assumes nothing.
-use mathlib.Core.Path.{_≡_, refl}
+use mathlib.Core.Path.{_≡_, sym, _∙_}
 use mathlib.Core.Bool.{true, false}
 use mathlib.Core.List.{List, [], _∷_}
+use Rattle.directory.specs.declared.Opening.{Opening}
 use Rattle.directory.specs.declared.Opening.the-variants.{Opened, Refused}
 use Rattle.directory.specs.Sizes.{Header}
-use Rattle.directory.specs.Refusals.{Refusal, first}
+use Rattle.directory.specs.Refusals.{Refusal}
+use Rattle.directory.specs.RefusalLaws.{first-none, first-one, first-past}
 use Rattle.directory.specs.Opening.{openedUnless}
 
-pub opened-none : (h : Header) → openedUnless h [] ≡ Opened (h .n) (h .r) (h .v)
-unfolding openedUnless first
-opened-none h = refl
+module _ (h : Header) where
+  pub opened-last : Opened (h .n) (h .r) (h .v) ≡ openedUnless h []
+  unfolding openedUnless
+  opened-last = sym (first-none _ Refused [] tt)
 
-module _ (h : Header) (row : Refusal) (table : List Refusal) where
-  pub opened-refused : row .applies ≡ true → openedUnless h (row ∷ table) ≡ Refused (row .number) (row .place)
-  unfolding openedUnless first
-  opened-refused t = rw t
+  module _ (row : Refusal) (table : List Refusal) where
+    pub refused-here : row .applies ≡ true → Refused (row .number) (row .place) ≡ openedUnless h (row ∷ table)
+    unfolding openedUnless
+    refused-here t = sym (first-one _ Refused row table t)
 
-  pub opened-past : row .applies ≡ false → openedUnless h (row ∷ table) ≡ openedUnless h table
-  unfolding openedUnless first
-  opened-past t = rw t
+    pub refused-later : {o : Opening} → row .applies ≡ false → o ≡ openedUnless h table → o ≡ openedUnless h (row ∷ table)
+    unfolding openedUnless
+    refused-later t e = e ∙ sym (first-past _ Refused (row ∷ []) table (t, tt))
