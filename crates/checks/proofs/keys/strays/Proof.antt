@@ -3,40 +3,40 @@ use Rattle.checks.proofs.keys.strays.Statement.{statement}
 use Rattle.checks.proofs.keys.strays.Tie as tie
 
 key-at-requires : tie.Need-key-at-requires
-key-at-requires c κs = search needs
+key-at-requires c κs = ?
 
 add-from : tie.Need-add-from
-add-from c = search needs
+add-from c = ?
 
 add-byte : tie.Need-add-byte
-add-byte c = search needs
+add-byte c = ?
 
 byte-requires : tie.Need-byte-requires
-byte-requires c κs = search needs
+byte-requires c κs = ?
 
 add-to : tie.Need-add-to
-add-to c = search needs
+add-to c = ?
 
 sub-lead : tie.Need-sub-lead
-sub-lead c = search needs
+sub-lead c = ?
 
 part-lead-start : tie.Need-part-lead-start
-part-lead-start c = search needs
+part-lead-start c = ?
 
 part-lead-end : tie.Need-part-lead-end
-part-lead-end c = search needs
+part-lead-end c = ?
 
 lead-requires : tie.Need-lead-requires
-lead-requires c κs = search needs
+lead-requires c κs = ?
 
 enum-known-k : tie.Need-enum-known-k
-enum-known-k c = search needs
+enum-known-k c = ?
 
 returns : tie.Need-returns
-returns c = search needs
+returns c = ?
 
 returns-2 : tie.Need-returns-2
-returns-2 c = search needs
+returns-2 c = ?
 
 pub strays-spec : {M : Type 1} → statement M
 strays-spec =

@@ -3,52 +3,52 @@ use Rattle.checks.proofs.table.table.Statement.{statement}
 use Rattle.checks.proofs.table.table.Tie as tie
 
 mul-m : tie.Need-mul-m
-mul-m c = search needs
+mul-m c = ?
 
 value-over-requires : tie.Need-value-over-requires
-value-over-requires c κs = search needs
+value-over-requires c κs = ?
 
 returns : tie.Need-returns
-returns c = search needs
+returns c = ?
 
 spare-set-requires : tie.Need-spare-set-requires
-spare-set-requires c κs = search needs
+spare-set-requires c κs = ?
 
 returns-2 : tie.Need-returns-2
-returns-2 c = search needs
+returns-2 c = ?
 
 sub-entries : tie.Need-sub-entries
-sub-entries c = search needs
+sub-entries c = ?
 
 add-entries : tie.Need-add-entries
-add-entries c = search needs
+add-entries c = ?
 
 wrong-rank-requires : tie.Need-wrong-rank-requires
-wrong-rank-requires c κs = search needs
+wrong-rank-requires c κs = ?
 
 returns-3 : tie.Need-returns-3
-returns-3 c = search needs
+returns-3 c = ?
 
 values-at-requires : tie.Need-values-at-requires
-values-at-requires c κs = search needs
+values-at-requires c κs = ?
 
 count-assigned-requires : tie.Need-count-assigned-requires
-count-assigned-requires c κs = search needs
+count-assigned-requires c κs = ?
 
 returns-4 : tie.Need-returns-4
-returns-4 c = search needs
+returns-4 c = ?
 
 cast-t13 : tie.Need-cast-t13
-cast-t13 c = search needs
+cast-t13 c = ?
 
 cast-t14 : tie.Need-cast-t14
-cast-t14 c = search needs
+cast-t14 c = ?
 
 cast-t15 : tie.Need-cast-t15
-cast-t15 c = search needs
+cast-t15 c = ?
 
 returns-5 : tie.Need-returns-5
-returns-5 c = search needs
+returns-5 c = ?
 
 pub table-spec : {M : Type 1} → statement M
 table-spec =
