@@ -10,7 +10,7 @@ use lib.ListN.{take, drop}
 use borrow.Author.Tests.{lt-ltb, le-ltb, ne-eqb}
 use Rattle.counting.specs.TestLaws.{or-second}
 use Rattle.counting.specs.Below.{any, lowest}
-use Rattle.counting.specs.SearchLaws.{lowest-found, lowest-missed}
+use Rattle.counting.specs.SearchLaws.{any-false, lowest-found, lowest-missed}
 use Rattle.directory.specs.declared.Lead.{Lead}
 use Rattle.directory.specs.declared.Opening.{Opening}
 use Rattle.directory.specs.declared.Opening.the-variants.{Opened, Refused}
@@ -20,6 +20,8 @@ use Rattle.directory.specs.Kind.{HD}
 use Rattle.directory.specs.Bytes.{byteAt, markLength}
 use Rattle.directory.specs.Leads.{leadsTo}
 use Rattle.directory.specs.File.{keyHead, leadIn, storedCode}
+use Rattle.directory.specs.Whole.{Key}
+use Rattle.directory.specs.WholeLaws.{key}
 use Rattle.directory.specs.Opening.{fillingSet, keyWrong, astray, keyRefusals, openedUnless}
 use Rattle.records.specs.Standing.{mostBytes, keyFrom}
 use Rattle.records.specs.StandingLaws.{key-length-from, code-from}
@@ -45,10 +47,10 @@ module _ (n r v : ℕ) (f : List ℕ) where
     unfolding keyWrong wrongLength fillingSet
     key-filling z m = rw (← key-length-from n r v f l key k e d, ne-eqb k 0 z, le-ltb mostBytes k m, code-from n r v f l key k e d)
 
-    -- where the code t of the record leads
-    pub stray-from : (t : List ℕ) → t ≡ take k (drop (key + keyHead) f) → (a : Lead) → a ≡ leadIn HD h f t → not (leadsTo l a) ≡ astray HD h f l
+    -- a is where the stored code leads, the bytes from the code's start to its end
+    pub stray-from : (a : Lead) → a ≡ leadIn HD h f (take (key + keyHead + k - (key + keyHead)) (drop (key + keyHead) f)) → not (leadsTo l a) ≡ astray HD h f l
     unfolding astray storedCode
-    stray-from t i a j = rw (j, i, key-length-from n r v f l key k e d, code-from n r v f l key k e d)
+    stray-from a i = let s : key + keyHead + k - (key + keyHead) ≡ k = omega arith in rw (i, s, key-length-from n r v f l key k e d, code-from n r v f l key k e d)
 
   -- ---- the answer
 
@@ -59,6 +61,9 @@ module _ (n r v : ℕ) (f : List ℕ) where
     pub key-refused : l < n → Refused 14 l ≡ answer
     unfolding keyRefusals
     key-refused m = ap (Refused 14) low ∙ refused-here h _ _ (lowest-found _ _ _ low m)
+
+    pub keys-right : n ≤ l → (i : ℕ) → i < n → Key HD h f i
+    keys-right right i m = key HD h f i (any-false n (keyWrong HD h f) (lowest-missed _ _ _ low right) i m)
 
     module _ (right : n ≤ l) (k : ℕ) (lowk : k ≡ lowest n (astray HD h f)) where
       pub stray-refused : k < n → Refused 15 k ≡ answer

@@ -24,7 +24,7 @@ loop-holds : tie.Need-loop-holds Inv-loop μ-loop
 loop-holds c = (omega arith, λ i l. absurd (omega arith))
 
 strays-requires : tie.Need-strays-requires Inv-loop μ-loop
-strays-requires c κs = let p = start (c .before) .pre in (p .0, c .loop-test .taken, p .1 .0 (c .before .loop .l) (c .loop-test .taken))
+strays-requires c κs = let p = start (c .before) .pre in (p .0, (c .loop-test .taken, p .1 (c .before .loop .l) (c .loop-test .taken)))
 
 returns : tie.Need-returns Inv-loop μ-loop
 returns c = let v = c .before .before .before .loop in lowest-only (record { noneBefore = v .inv .1; most = v .inv .0; passes = λ l. sym (c .before .strays .ensures) ∙ c .if1 .taken })
