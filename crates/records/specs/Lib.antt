@@ -3,4 +3,3 @@ pub mod StandingLaws
 pub mod FramedLaws
 pub mod ReadingSteps
 pub mod LeadLaws
-pub mod FramedLaws
