@@ -5,7 +5,7 @@ use Rattle.directory.specs.Sizes.{headed}
 use Rattle.directory.specs.Kind.{HD}
 use Rattle.directory.specs.Values.{tableRefusals}
 use Rattle.directory.specs.File.{tableIn}
-use Rattle.directory.specs.Opening.{markRefusals, keyRefusals, openedUnless}
+use Rattle.directory.specs.Opening.{keyRefusals, recordRefusals, openedUnless}
 use Rattle.directory.specs.OpeningLaws.{unless-refused, unless-passed}
 use borrow.Author.Needs.{needs}
 use Rattle.reader.proofs.opening.open_records.Statement.{statement}
@@ -33,10 +33,12 @@ keys-requires : tie.Need-keys-requires
 keys-requires c κs = search needs
 
 -- the marks are right, so the other rows decide
-marks-passed : (c : tie.After-enum-told) → let a = c .before .before .before .before .args in openedUnless (headed (a .n) (a .r) (a .v)) (markRefusals HD (headed (a .n) (a .r) (a .v)) (a .file .now) ++ (tableRefusals (headed (a .n) (a .r) (a .v)) (tableIn HD (headed (a .n) (a .r) (a .v)) (a .file .now)) ++ keyRefusals HD (headed (a .n) (a .r) (a .v)) (a .file .now))) ≡ openedUnless (headed (a .n) (a .r) (a .v)) (tableRefusals (headed (a .n) (a .r) (a .v)) (tableIn HD (headed (a .n) (a .r) (a .v)) (a .file .now)) ++ keyRefusals HD (headed (a .n) (a .r) (a .v)) (a .file .now))
+marks-passed : (c : tie.After-enum-told) → let a = c .before .before .before .before .args in let h = headed (a .n) (a .r) (a .v) in openedUnless h (recordRefusals HD h (a .file .now)) ≡ openedUnless h (tableRefusals h (tableIn HD h (a .file .now)) ++ keyRefusals HD h (a .file .now))
+unfolding recordRefusals
 marks-passed c = unless-passed _ _ _ _ _ _ (sym (c .before .before .marks .ensures) ∙ c .enum-told .given .1)
 
 returns : tie.Need-returns
+unfolding recordRefusals
 returns c = let n = c .before in sym (unless-refused _ _ _ _ _ (sym (n .before .before .marks .ensures) ∙ n .number .given .1))
 
 returns-2 : tie.Need-returns-2
