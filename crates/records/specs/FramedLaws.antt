@@ -4,19 +4,19 @@ use Prim.Native.Nat.{ℕ, _≤_, _<_}
 use native.Mathlib.Omega.{arith}
 use Rattle.directory.specs.Sizes.{mostVertices, headed}
 use Rattle.directory.specs.Kind.{HD}
-use Rattle.directory.specs.Whole.{Framed}
+use Rattle.directory.specs.Whole.{Sized, Framed}
 use Rattle.records.specs.Standing.{Room, Tabled, Keyed}
 use Rattle.records.specs.StandingLaws.{length-from, part-most}
 
-module _ (n r v : ℕ) (f : List ℕ) (s : Framed HD (headed n r v) f) where
-  framed-room : Room r v
-  framed-room = record { two = s .sizes .two; three = s .sizes .three; some = s .sizes .some; room = s .sizes .room }
+pub sized-room : (n r v : ℕ) → Sized (headed n r v) → Room r v
+sized-room n r v s = record { two = s .two; three = s .three; some = s .some; room = s .room }
 
+module _ (n r v : ℕ) (f : List ℕ) (s : Framed HD (headed n r v) f) where
   pub framed-tabled : Tabled r v f
-  framed-tabled = record { room = framed-room; long = omega (arith, length-from n r v) }
+  framed-tabled = record { room = sized-room n r v (s .sizes); long = omega (arith, length-from n r v) }
 
   pub framed-keyed : (l : ℕ) → l < n → Keyed r v l f
-  framed-keyed l m = record { room = framed-room; few = omega (arith, s .sizes .few); long = omega (arith, length-from n r v) }
+  framed-keyed l m = record { room = sized-room n r v (s .sizes); few = omega (arith, s .sizes .few); long = omega (arith, length-from n r v) }
 
   pub framed-part : v ≤ mostVertices
-  framed-part = part-most r v framed-room
+  framed-part = part-most r v (sized-room n r v (s .sizes))
