@@ -8,3 +8,5 @@ pub mod ListsLaws
 pub mod OccurrenceLaws
 pub mod Holds
 pub mod HoldsLaws
+pub mod Wrote
+pub mod WroteLaws
