@@ -1,0 +1,4 @@
+pub mod Standing
+pub mod StandingLaws
+pub mod ReadingSteps
+pub mod LeadLaws
