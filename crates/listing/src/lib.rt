@@ -16,11 +16,14 @@ ghost use Rattle.directory.specs.Sizes.{mostCodes};
 ghost use Rattle.directory.specs.Calls.{listingOf};
 ghost use Rattle.listing.specs.Text.{lines, longestListing, Counts};
 
-// Room for the longest text, zeros. The `ensures` gives only the length.
-pub fn text_buffer() -> [u8; 71680]
+// 1,024 lines of at most 70 bytes.
+const LONGEST_LISTING: usize = 71_680;
+
+// Zeros, as many as the longest text has bytes. The `ensures` gives only the length, which lending the array as a slice needs.
+pub fn text_buffer() -> [u8; LONGEST_LISTING]
     ensures { λ text. ⌜ longestListing ≡ length text ⌝ }
 {
-    [0; 71680]
+    [0; LONGEST_LISTING]
 }
 
 // The lines 0 to n - 1 of a file.

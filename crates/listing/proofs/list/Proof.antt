@@ -23,7 +23,7 @@ short : (c : tie.After-known-told2) → length (refusedLine (c .before .opened2 
 short c = refused-short _ _ (search needs) (search needs)
 
 open-requires : tie.Need-open-requires
-open-requires c κs = ?
+open-requires c κs = search needs
 
 enum-known-opened : tie.Need-enum-known-opened
 enum-known-opened c = search needs

@@ -4,6 +4,7 @@ use Prim.Native.Nat.{_-_, _*_, _≤_}
 use native.Mathlib.Omega.{arith}
 use denote.Ref.{now}
 use lib.ListN.{length}
+use borrow.Author.Needs.{needs}
 use Rattle.counting.specs.Wrote.{Wrote}
 use Rattle.counting.specs.WroteLaws.{wrote-named, wrote-each-none, wrote-each-next}
 use Rattle.directory.specs.Listing.{listedLine}
@@ -39,7 +40,7 @@ unfolding lines
 loop-holds c = (omega arith, wrote-each-none _ _ _, omega arith)
 
 show-requires : tie.Need-show-requires Inv-loop μ-loop
-show-requires c κs = ?
+show-requires c κs = search needs
 
 put-line-requires : tie.Need-put-line-requires Inv-loop μ-loop
 put-line-requires c κs = omega (arith, short c)
