@@ -13,14 +13,26 @@ use Rattle.listing.specs.ListingLaws.{listing-text, counts, opened-few, 
 use Rattle.listing.proofs.list.Statement.{statement}
 use Rattle.listing.proofs.list.Tie as tie
 
+-- what opening gave, ..
 opened : (c : tie.After-opened) → openOf (c .before .before .before .before .before .args .file .now) ≡ Opened (c .opened .given .0 .0) (c .opened .given .0 .1 .0) (c .opened .given .0 .1 .1 .0)
 opened c = sym (c .before .before .open .ensures) ∙ c .opened .given .1
 
 refused : (c : tie.After-opened2) → openOf (c .before .before .before .before .before .args .file .now) ≡ Refused (c .opened2 .given .0 .0) (c .opened2 .given .0 .1 .0)
 refused c = sym (c .before .before .open .ensures) ∙ c .opened2 .given .1
 
+-- .. and its refusal is a line that has room
 short : (c : tie.After-known-told2) → length (refusedLine (c .before .opened2 .given .0 .0) (c .before .opened2 .given .0 .1 .0)) ≤ longestListing
 short c = refused-short _ _ (search needs) (search needs)
+
+returns : tie.Need-returns
+returns c =
+    let w = c .before .before in
+    (wrote-named (sym (listing-text _ ∙ ap (textOf _) (opened (w .before .before .before)))) (w .put-lines .ensures .0), counts _ _ (search needs))
+
+returns-2 : tie.Need-returns-2
+returns-2 c =
+    let w = c .before .before in
+    (wrote-named (sym (listing-text _ ∙ ap (textOf _) (refused (w .before .before .before)))) (w .put-refused .ensures), counts _ _ (omega (arith, short (w .before .before))))
 
 open-requires : tie.Need-open-requires
 open-requires c κs = search needs
@@ -46,18 +58,8 @@ put-refused-requires c κs = omega (arith, short (c .before))
 same-length : tie.Need-same-length
 same-length c = search needs
 
-returns : tie.Need-returns
-returns c =
-    let w = c .before .before in
-    (wrote-named (sym (listing-text _ ∙ ap (textOf _) (opened (w .before .before .before)))) (w .put-lines .ensures .0), counts _ _ (search needs))
-
 same-length-2 : tie.Need-same-length-2
 same-length-2 c = search needs
-
-returns-2 : tie.Need-returns-2
-returns-2 c =
-    let w = c .before .before in
-    (wrote-named (sym (listing-text _ ∙ ap (textOf _) (refused (w .before .before .before)))) (w .put-refused .ensures), counts _ _ (omega (arith, short (w .before .before))))
 
 pub list-spec : {M : Type 1} → statement M
 list-spec = tie.close (tie.spec open-requires enum-known-opened cast-put-lines put-lines-requires enum-known-opened-2 cast-put-refused put-refused-requires same-length returns same-length-2 returns-2)
