@@ -1,11 +1,10 @@
 -- How long the lines of the text are. Assumes nothing.
 use mathlib.Core.Path.{_≡_}
 use mathlib.Core.List.{List}
-use Prim.Native.Nat.{ℕ, _+_, _*_, _^_, _≤_, _<_}
+use Prim.Native.Nat.{ℕ, _+_}
 use native.Mathlib.Omega.{arith}
 use lib.ListN.{length, length-append}
 use Rattle.directory.specs.Listing.{decimal, hex, listedLine, refusedLine}
-use Rattle.listing.specs.TextLaws.{decimal-length, hex-length}
 
 pub listed-line-length : (l : ℕ) (t : List ℕ) → length (listedLine l t) ≡ length (decimal l) + length (hex t) + 2
 unfolding listedLine

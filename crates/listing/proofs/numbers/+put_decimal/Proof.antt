@@ -1,12 +1,11 @@
 -- `listing::numbers::put_decimal`, which calls itself, meets its contract. The measure is the number: x / 10 is less. Assumes nothing.
 use mathlib.Core.Path.{sym, ap}
-use Prim.Native.Nat.{ℕ, _+_, _/_, _%_, _<_, _≤_}
+use Prim.Native.Nat.{ℕ, _<_}
 use native.Mathlib.Omega.{arith}
 use lib.ListN.{length}
 use borrow.Fn.Kinds.{In}
 use borrow.Fn.PlainCycle.{Measures, is, falls, and}
 use Rattle.counting.specs.WroteLaws.{wrote-then, wrote-named}
-use Rattle.directory.specs.Listing.{decimal}
 use Rattle.listing.specs.TextLaws.{decimal-one, decimal-more, decimal-more-length}
 use Rattle.listing.proofs.numbers.put_decimal.Reads as put-decimal
 use Rattle.listing.proofs.numbers.put_decimal.Kinds as put-decimal-kinds
