@@ -34,6 +34,11 @@ module _ (h : Header) (T : ℕ → ℕ) (x : ℕ → ℕ) where
   abbrev y : ℕ
   y = landing r (valueIn T) x
 
+  -- a landing vertex that is unassigned leads nowhere
+  pub lead-nowhere : valueIn T y ≡ unassigned r → leadOf h T x ≡ Nowhere
+  unfolding leadOf
+  lead-nowhere e = rw (eq-eqb _ _ e)
+
   -- a line that it leads to is below n, whatever the bytes
   pub lead-below : (l : ℕ) → leadOf h T x ≡ ToLine l → l < n
   unfolding leadOf
@@ -43,11 +48,6 @@ module _ (h : Header) (T : ℕ → ℕ) (x : ℕ → ℕ) where
       go true true t e = let i : lineIn h T y ≡ l = cc in rw (← i) (ltb-true _ _ t)
       go true false t e = absurd (let z : _≡_ {A = ℕ} 0 1 = cc in omega arith)
       go false b t e = absurd (let z : _≡_ {A = ℕ} 0 1 = cc in omega arith)
-
-  -- a landing vertex that is unassigned leads nowhere
-  pub lead-nowhere : valueIn T y ≡ unassigned r → leadOf h T x ≡ Nowhere
-  unfolding leadOf
-  lead-nowhere e = rw (eq-eqb _ _ e)
 
   -- by right rank entries and n assigned vertices in all, ..
   module _

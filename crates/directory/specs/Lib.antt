@@ -25,7 +25,7 @@ pub mod OpenedLaws
 pub mod Listing
 pub mod Answers
 pub mod Calls
-pub mod AnyFile
+pub mod EveryFile
 pub mod SizeLaws
 pub mod KindLaws
 pub mod BytesLaws

@@ -26,7 +26,7 @@ none-both (row ∷ table) more h k = (h .0, none-both table more (h .1) k)
 given-here : (row : Refusal) (after : List Refusal) → row .applies ≡ true → Given (row ∷ after) (row .number) (row .place)
 given-here row after t = record { before = []; row = row; after = after; rows = refl; passed = tt; applies = t; itsNumber = refl; itsPlace = refl }
 
--- rows of which none applies change nothing before it ..
+-- what a table gives, it gives behind rows of which none applies, ..
 pub given-later : (table : List Refusal) {more : List Refusal} {k p : ℕ} → NoneApplies table → Given more k p → Given (table ++ more) k p
 given-later table {more} h g =
     record {
@@ -40,7 +40,7 @@ given-later table {more} h g =
       itsPlace = g .itsPlace;
     }
 
--- .. and no rows after it do
+-- .. and before any rows
 pub given-more : {table : List Refusal} (more : List Refusal) {k p : ℕ} → Given table k p → Given (table ++ more) k p
 given-more more g =
     record {

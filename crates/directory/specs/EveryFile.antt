@@ -10,9 +10,10 @@ use Rattle.directory.specs.declared.Opening.{Opening}
 use Rattle.directory.specs.declared.Opening.the-variants as opening
 use Rattle.directory.specs.declared.Found.{Found}
 use Rattle.directory.specs.declared.Found.the-variants as found
+use Rattle.directory.specs.declared.Lead.{Lead}
 use Rattle.directory.specs.declared.Lead.the-variants.{ToLine, PastLast}
 use Rattle.directory.specs.Sizes.{Header, mostCodes, headed}
-use Rattle.directory.specs.Refusals.{NoneApplies, Given}
+use Rattle.directory.specs.Refusals.{Refusal, NoneApplies, Given}
 use Rattle.directory.specs.File.{headerIn, codeAt, keyLength, storedCode, leadIn}
 use Rattle.directory.specs.Whole.{Framed, Whole}
 use Rattle.directory.specs.Opening.{headerRefusals, openRefusals}
@@ -24,6 +25,22 @@ use Rattle.directory.specs.OpeningLaws.{header-opened, header-refused, o
 use Rattle.directory.specs.LookupLaws.{lookup-line, lookup-below, lookup-refused}
 use Rattle.directory.specs.ShowingLaws.{shown-part, shown-stored, part-empty, shown-empty, shown-bytes}
 use Rattle.directory.specs.OpenedLaws.{stored-some, stored-own, lookup-stored, lookup-unknown, lookup-wrong, shows-stored, shows-none}
+
+-- ---- short names, of any bytes f
+
+-- the refusals of opening, of the header alone and of looking up code t, in their order
+abbrev pub openTable : List ℕ → List Refusal
+openTable f = openRefusals (kindOf f) (headerIn f) f
+
+abbrev pub headerTable : List ℕ → List Refusal
+headerTable f = headerRefusals (kindOf f) (headerIn f) f
+
+abbrev pub lookupTable : List ℕ → List ℕ → List Refusal
+lookupTable f t = lookupRefusals (kindOf f) (headerIn f) f t
+
+-- where code t leads by the stored values
+abbrev pub leadOfCode : List ℕ → List ℕ → Lead
+leadOfCode f t = leadIn (kindOf f) (headerIn f) f t
 
 -- the code that is stored at line l
 abbrev pub stored : List ℕ → ℕ → List ℕ
@@ -45,8 +62,8 @@ module _ (f : List ℕ) where
   unfolding openOf
   opens-exactly-if-whole = opening-opened (kindOf f) f
 
-  -- opening is refused exactly with the number and place of the first row of 9 to 15 that applies
-  pub opening-is-refused-by-the-first-that-applies : (k p : ℕ) → (openOf f ≡ opening.Refused k p) ↔ Given (openRefusals (kindOf f) (headerIn f) f) k p
+  -- it is refused exactly with the number and place of the first of 9 to 15 that applies, in document 01's order
+  pub opening-is-refused-by-the-first-that-applies : (k p : ℕ) → (openOf f ≡ opening.Refused k p) ↔ Given (openTable f) k p
   unfolding openOf
   opening-is-refused-by-the-first-that-applies = opening-refused (kindOf f) f
 
@@ -55,8 +72,8 @@ module _ (f : List ℕ) where
   unfolding headerOf
   the-header-is-given-exactly-if-framed = header-opened (kindOf f) f
 
-  -- and is refused exactly with the number and place of the first of 9, 10, 11 and 9 that applies
-  pub the-header-is-refused-by-the-first-that-applies : (k p : ℕ) → (headerOf f ≡ opening.Refused k p) ↔ Given (headerRefusals (kindOf f) (headerIn f) f) k p
+  -- it is refused exactly with the number and place of the first of 9, 10, 11 and 9 that applies
+  pub the-header-is-refused-by-the-first-that-applies : (k p : ℕ) → (headerOf f ≡ opening.Refused k p) ↔ Given (headerTable f) k p
   unfolding headerOf
   the-header-is-refused-by-the-first-that-applies = header-refused (kindOf f) f
 
@@ -72,7 +89,7 @@ module _ (f : List ℕ) where
 
   module _ (t : List ℕ) where
     -- a line is given exactly if no refusal applies, the code leads to it, and its KY record has the code's length and bytes
-    pub a-line-is-given-exactly-if-the-code-leads-and-stands-there : (l : ℕ) → (lookupOf f t ≡ found.At l) ↔ (NoneApplies (lookupRefusals (kindOf f) (headerIn f) f t) × (leadIn (kindOf f) (headerIn f) f t ≡ ToLine l) × (storedLength f l ≡ length t) × (stored f l ≡ t))
+    pub a-line-is-given-exactly-if-the-code-leads-and-stands-there : (l : ℕ) → (lookupOf f t ≡ found.At l) ↔ (NoneApplies (lookupTable f t) × (leadOfCode f t ≡ ToLine l) × (storedLength f l ≡ length t) × (stored f l ≡ t))
     unfolding lookupOf
     a-line-is-given-exactly-if-the-code-leads-and-stands-there = lookup-line (kindOf f) f t
 
@@ -81,13 +98,12 @@ module _ (f : List ℕ) where
     unfolding lookupOf
     a-line-that-is-given-stores-the-code l e = (lookup-below (kindOf f) f t l e, lookup-line (kindOf f) f t l .0 e .3)
 
-    -- the header call gives that n
+    -- that n is the one that the header call gives
     pub a-line-that-is-given-is-below-the-headers-n : (n r v l : ℕ) → headerOf f ≡ opening.Opened n r v → lookupOf f t ≡ found.At l → l < n
     a-line-that-is-given-is-below-the-headers-n n r v l o e = let h = the-header-is-given-exactly-if-framed n r v .0 o .0 in (rw h at (a-line-that-is-given-stores-the-code l e .0))
 
-    -- looking up is refused exactly with the first of 9, 10, 11, 9 and 16 that applies; or with 13 where none does and the code leads past the last line, by the rank entry that is the place
-    pub looking-up-is-refused-by-the-first-that-applies : (k p : ℕ)
-        → (lookupOf f t ≡ found.Refused k p) ↔ (Given (lookupRefusals (kindOf f) (headerIn f) f t) k p ⊎ (NoneApplies (lookupRefusals (kindOf f) (headerIn f) f t) × (k ≡ 13) × (leadIn (kindOf f) (headerIn f) f t ≡ PastLast p)))
+    -- looking up is refused exactly with the first of 9, 10, 11, 9 and 16 that applies, or where none does with 13, if the code leads to a line of n or more by the rank entry that is the place
+    pub looking-up-is-refused-by-the-first-that-applies : (k p : ℕ) → (lookupOf f t ≡ found.Refused k p) ↔ (Given (lookupTable f t) k p ⊎ (NoneApplies (lookupTable f t) × (k ≡ 13) × (leadOfCode f t ≡ PastLast p)))
     unfolding lookupOf
     looking-up-is-refused-by-the-first-that-applies = lookup-refused (kindOf f) f t
 
@@ -99,17 +115,17 @@ module _ (f : List ℕ) where
   -- ---- showing
 
   module _ (l : ℕ) where
-    -- a line shows no bytes exactly if a refusal of the header applies, the line is n or more, or the stored length is 0 or over 32
-    pub shows-nothing-exactly-if-there-is-nothing : (showOf f l ≡ []) ↔ ShowsNothing (kindOf f) f l
-    unfolding showOf
-    shows-nothing-exactly-if-there-is-nothing = shown-empty (kindOf f) f l
-
     -- the bytes that are shown are those of the part
     pub the-bytes-shown-are-those-of-the-part : showOf f l ≡ bytesOf f (showPartOf f l)
     unfolding showOf showPartOf shown
     the-bytes-shown-are-those-of-the-part = refl
 
-    -- the empty part of the file stands for these cases alone
+    -- a line shows no bytes exactly if a refusal of the header applies, the line is n or more, or the stored length is 0 or over 32
+    pub shows-nothing-exactly-if-there-is-nothing : (showOf f l ≡ []) ↔ ShowsNothing (kindOf f) f l
+    unfolding showOf
+    shows-nothing-exactly-if-there-is-nothing = shown-empty (kindOf f) f l
+
+    -- in these cases alone the part is the empty one, the file's empty beginning
     pub the-empty-part-exactly-if-there-is-nothing : (showPartOf f l ≡ emptyPart) ↔ ShowsNothing (kindOf f) f l
     unfolding showPartOf
     the-empty-part-exactly-if-there-is-nothing = part-empty (kindOf f) f l
