@@ -1,7 +1,7 @@
 -- What opening, and the header alone, give on any bytes, as facts. Assumes nothing.
 use mathlib.Core.Path.{_≡_, sym, ap, _∙_}
 use mathlib.Core.Logic.{_≢_, _↔_}
-use mathlib.Core.List.{List}
+use mathlib.Core.List.{List, _++_}
 use Prim.Native.Nat.{ℕ}
 use native.Mathlib.Omega.{arith}
 use Rattle.directory.specs.declared.Opening.{Opening}
@@ -9,7 +9,7 @@ use Rattle.directory.specs.declared.Opening.the-variants.{Opened, Refuse
 use Rattle.directory.specs.Sizes.{Header, headed}
 use Rattle.directory.specs.Kind.{Kind}
 use Rattle.directory.specs.Refusals.{Refusal, first, NoneApplies, Given}
-use Rattle.directory.specs.RefusalLaws.{first-none, first-is, first-given}
+use Rattle.directory.specs.RefusalLaws.{given-more, first-none, first-past, first-is, first-given}
 use Rattle.directory.specs.File.{headerIn}
 use Rattle.directory.specs.Whole.{Framed, Whole}
 use Rattle.directory.specs.Opening.{headerRefusals, openRefusals, openedUnless, header, opening}
@@ -35,6 +35,15 @@ module _ (h : Header) (table : List Refusal) where
   unless-given : (k p : ℕ) → (openedUnless h table ≡ Refused k p) ↔ Given table k p
   unfolding openedUnless
   unless-given = first-given (Opened (h .n) (h .r) (h .v)) Refused (λ i q k p e. (cc, cc)) (λ k p. opened-not-refused _ _ _ k p) table
+
+-- a refusal by a table is one by a longer table; a table of which no row applies is passed
+module _ (h : Header) (table more : List Refusal) where
+  pub unless-refused : (k p : ℕ) → openedUnless h table ≡ Refused k p → openedUnless h (table ++ more) ≡ Refused k p
+  unless-refused k p e = unless-given h (table ++ more) k p .1 (given-more more (unless-given h table k p .0 e))
+
+  pub unless-passed : (n r v : ℕ) → openedUnless h table ≡ Opened n r v → openedUnless h (table ++ more) ≡ openedUnless h more
+  unfolding openedUnless
+  unless-passed n r v e = first-past _ Refused table more (unless-none h table n r v .0 e .1)
 
 -- where `P` says of each header that no row of its table applies
 unless-opened : (h : Header) (table : Header → List Refusal) (P : Header → Type 0) → ((g : Header) → NoneApplies (table g) ↔ P g) → (n r v : ℕ)
