@@ -1,6 +1,6 @@
 -- What is proved of the calls on any bytes, for readers: each theorem under a line that says it, with the law that proves it. Assumes nothing.
 use mathlib.Core.Path.{_≡_, refl, sym, ap, _∙_}
-use mathlib.Core.Logic.{_⊎_, inl, _≢_, _↔_}
+use mathlib.Core.Logic.{_⊎_, inl, ⊎-elim, _≢_, _↔_}
 use mathlib.Core.List.{List, []}
 use Prim.Native.Nat.{ℕ, _≤_, _<_}
 use native.Mathlib.Omega.{arith}
@@ -12,6 +12,8 @@ use Rattle.directory.specs.declared.Found.{Found}
 use Rattle.directory.specs.declared.Found.the-variants as found
 use Rattle.directory.specs.declared.Lead.{Lead}
 use Rattle.directory.specs.declared.Lead.the-variants.{ToLine, PastLast}
+use Rattle.directory.specs.declared.RefusalGroup.{RefusalGroup}
+use Rattle.directory.specs.declared.PlaceMeaning.{PlaceMeaning}
 use Rattle.directory.specs.Sizes.{Header, mostCodes, headed}
 use Rattle.directory.specs.Refusals.{Refusal, NoneApplies, Given}
 use Rattle.directory.specs.File.{headerIn, codeAt, keyLength, storedCode, leadIn}
@@ -19,8 +21,10 @@ use Rattle.directory.specs.Whole.{Framed, Whole}
 use Rattle.directory.specs.Opening.{headerRefusals, openRefusals}
 use Rattle.directory.specs.LookingUp.{lookupRefusals}
 use Rattle.directory.specs.Showing.{emptyPart, bytesOf, IsPart, shown, ShowsNothing, ShowsCode}
-use Rattle.directory.specs.Calls.{kindOf, headerOf, openOf, lookupOf, showPartOf, showOf}
+use Rattle.directory.specs.Calls.{kindOf, lengthOf, headerOf, openOf, lookupOf, showPartOf, showOf}
+use Rattle.directory.specs.Answers.{openingNumbers, groupOf, meaningOf}
 use Rattle.directory.specs.RefusalLaws.{given-more}
+use Rattle.directory.specs.NumberLaws.{open-numbers, lookup-numbers, numbers-of-success, numbers-of-refusal}
 use Rattle.directory.specs.OpeningLaws.{header-opened, header-refused, opening-opened, opening-refused}
 use Rattle.directory.specs.LookupLaws.{lookup-line, lookup-below, lookup-refused}
 use Rattle.directory.specs.ShowingLaws.{shown-part, shown-stored, part-empty, shown-empty, shown-bytes}
@@ -85,6 +89,23 @@ module _ (f : List ℕ) where
   pub a-header-has-at-most-1024-codes : (n r v : ℕ) → headerOf f ≡ opening.Opened n r v → n ≤ mostCodes
   a-header-has-at-most-1024-codes n r v o = the-header-is-given-exactly-if-framed n r v .0 o .1 .sizes .few
 
+  -- ---- the paper's numbers
+
+  some-number : (k p : ℕ) → openOf f ≡ opening.Refused k p → 1 ≤ k
+  some-number k p e = omega (arith, open-numbers (kindOf f) (headerIn f) f (opening-is-refused-by-the-first-that-applies k p .0 e) .0)
+
+  -- a refusal of opening has a number from 9 to 15
+  pub opening-refuses-with-9-to-15 : (k p : ℕ) → openOf f ≡ opening.Refused k p → (9 ≤ k) × (k ≤ 15)
+  opening-refuses-with-9-to-15 k p e = open-numbers (kindOf f) (headerIn f) f (opening-is-refused-by-the-first-that-applies k p .0 e)
+
+  -- so number 0 is given exactly if the file opens, with the place 0 and its n, r and v
+  pub number-0-exactly-if-it-opens : (n r v : ℕ) → (openingNumbers (openOf f) ≡ (0, 0, n, r, v)) ↔ (openOf f ≡ opening.Opened n r v)
+  number-0-exactly-if-it-opens = numbers-of-success (openOf f) some-number
+
+  -- otherwise the number and the place are those of the refusal, and n, r and v are 0
+  pub otherwise-the-refusals-number-and-place : (k p : ℕ) → 1 ≤ k → (openingNumbers (openOf f) ≡ (k, p, 0, 0, 0)) ↔ (openOf f ≡ opening.Refused k p)
+  otherwise-the-refusals-number-and-place = numbers-of-refusal (openOf f) some-number
+
   -- ---- looking up
 
   module _ (t : List ℕ) where
@@ -106,6 +127,10 @@ module _ (f : List ℕ) where
     pub looking-up-is-refused-by-the-first-that-applies : (k p : ℕ) → (lookupOf f t ≡ found.Refused k p) ↔ (Given (lookupTable f t) k p ⊎ (NoneApplies (lookupTable f t) × (k ≡ 13) × (leadOfCode f t ≡ PastLast p)))
     unfolding lookupOf
     looking-up-is-refused-by-the-first-that-applies = lookup-refused (kindOf f) f t
+
+    -- its number is from 9 to 16
+    pub looking-up-refuses-with-9-to-16 : (k p : ℕ) → lookupOf f t ≡ found.Refused k p → (9 ≤ k) × (k ≤ 16)
+    looking-up-refuses-with-9-to-16 k p e = ⊎-elim (λ g. lookup-numbers (kindOf f) (headerIn f) f t g) (λ w. (omega (arith, w .1), omega (arith, w .1))) (looking-up-is-refused-by-the-first-that-applies k p .0 e)
 
     -- a refusal of the header is that of every lookup, with the same number and place
     pub a-refused-header-is-refused-to-every-code : (k p : ℕ) → headerOf f ≡ opening.Refused k p → lookupOf f t ≡ found.Refused k p
@@ -196,6 +221,15 @@ opening-is-decided f a b = a ∙ sym b
 
 pub looking-up-is-decided : (f t : List ℕ) {o p : Found} → o ≡ lookupOf f t → p ≡ lookupOf f t → o ≡ p
 looking-up-is-decided f t a b = a ∙ sym b
+
+pub the-length-is-decided : (n r v : ℕ) {k l : ℕ} → k ≡ lengthOf n r v → l ≡ lengthOf n r v → k ≡ l
+the-length-is-decided n r v a b = a ∙ sym b
+
+pub the-group-is-decided : (number : ℕ) {a b : RefusalGroup} → a ≡ groupOf number → b ≡ groupOf number → a ≡ b
+the-group-is-decided number a b = a ∙ sym b
+
+pub the-meaning-of-a-place-is-decided : (number : ℕ) {a b : PlaceMeaning} → a ≡ meaningOf number → b ≡ meaningOf number → a ≡ b
+the-meaning-of-a-place-is-decided number a b = a ∙ sym b
 
 -- two slices that are this part of the file's slice have the same bytes, in the same block and at the same place
 pub showing-is-decided : (l : ℕ) {slice other file : RefT (List ℕ)} → IsPart slice file (showPartOf (now file) l) → IsPart other file (showPartOf (now file) l) → (now slice ≡ now other) × (ptr slice .0 ≡ ptr other .0) × (ptr slice .1 ≡ ptr other .1)

@@ -25,6 +25,7 @@ pub mod OpenedLaws
 pub mod Listing
 pub mod Answers
 pub mod Calls
+pub mod NumberLaws
 pub mod EveryFile
 pub mod SizeLaws
 pub mod KindLaws

@@ -1,0 +1,73 @@
+-- The numbers that the calls on a file refuse with, each within its group; so number 0 is success alone. Assumes nothing.
+use mathlib.Core.Path.{_≡_, refl, sym, ap, _∙_}
+use mathlib.Core.Logic.{_↔_}
+use mathlib.Core.Bool.{Bool, true, _&&_}
+use mathlib.Core.List.{List, _∷_, _++_}
+use Prim.Native.Nat.{ℕ, _≤_}
+use native.Mathlib.Omega.{arith}
+use lib.Dec.{leb}
+use lib.ListN.{length, getD, length-append}
+use lib.Seq.{getD-append-seam}
+use borrow.Author.Tests.{leb-true}
+use Rattle.counting.specs.TestLaws.{and-left, and-right}
+use Rattle.counting.specs.Lists.{every}
+use Rattle.counting.specs.ListsLaws.{every-passes}
+use Rattle.directory.specs.declared.Opening.{Opening}
+use Rattle.directory.specs.declared.Opening.the-variants.{Opened, Refused}
+use Rattle.directory.specs.Sizes.{Header}
+use Rattle.directory.specs.Kind.{Kind}
+use Rattle.directory.specs.Refusals.{Refusal, Given}
+use Rattle.directory.specs.Values.{tableRefusals}
+use Rattle.directory.specs.File.{tableIn}
+use Rattle.directory.specs.Opening.{headerRefusals, wrongMark, markRefusals, keyRefusals, recordRefusals, openRefusals}
+use Rattle.directory.specs.LookingUp.{lookupRefusals}
+use Rattle.directory.specs.Answers.{openingNumbers}
+
+-- the number of a row is from low to high
+unfoldable numbered : ℕ → ℕ → Refusal → Bool
+numbered low high row = leb low (row .number) && leb (row .number) high
+
+-- where that holds of every row, it holds of the number that the table gives
+given-numbered : (low high : ℕ) {table : List Refusal} {k p : ℕ} → every (numbered low high) table ≡ true → Given table k p → (low ≤ k) × (k ≤ high)
+unfolding numbered
+given-numbered low high all g =
+    let i = length (g .before) in
+    let at : getD (g .before ++ g .row ∷ g .after) i (g .row) ≡ g .row = getD-append-seam (g .before) (g .row) (g .after) (g .row) in
+    let t : numbered low high (g .row) ≡ true = rw (← at) (every-passes (numbered low high) (g .before ++ g .row ∷ g .after) (rw (← g .rows) all) i (g .row) (rw (length-append (g .before) (g .row ∷ g .after)) (omega arith))) in
+    rw (← g .itsNumber) (leb-true low _ (and-left (leb low (g .row .number)) _ t), leb-true _ high (and-right (leb low (g .row .number)) _ t))
+
+module _ (K : Kind) (h : Header) (f : List ℕ) {k p : ℕ} where
+  pub header-numbers : Given (headerRefusals K h f) k p → (9 ≤ k) × (k ≤ 11)
+  unfolding every numbered headerRefusals
+  header-numbers = given-numbered 9 11 refl
+
+  pub open-numbers : Given (openRefusals K h f) k p → (9 ≤ k) × (k ≤ 15)
+  unfolding every numbered openRefusals recordRefusals headerRefusals markRefusals wrongMark tableRefusals keyRefusals
+  open-numbers = given-numbered 9 15 refl
+
+  pub lookup-numbers : (t : List ℕ) → Given (lookupRefusals K h f t) k p → (9 ≤ k) × (k ≤ 16)
+  unfolding every numbered lookupRefusals headerRefusals
+  lookup-numbers t = given-numbered 9 16 refl
+
+-- an answer whose refusals are never 0 is told by its numbers
+module _ (o : Opening) (never : (k p : ℕ) → o ≡ Refused k p → 1 ≤ k) where
+  pub numbers-of-success : (n r v : ℕ) → (openingNumbers o ≡ (0, 0, n, r, v)) ↔ (o ≡ Opened n r v)
+  numbers-of-success n r v = (there o refl, λ e. ap openingNumbers e)
+    where
+      there : (a : Opening) → o ≡ a → openingNumbers a ≡ (0, 0, n, r, v) → a ≡ Opened n r v
+      there (Opened i j k) q e =
+          let a : i ≡ n = ap (λ x. x .2) e in
+          let b : j ≡ r = ap (λ x. x .3) e in
+          let c : k ≡ v = ap (λ x. x .4) e in
+          cc
+      there (Refused k p) q e = absurd (let z : k ≡ 0 = ap (λ x. x .0) e in omega (arith, never k p q))
+
+  pub numbers-of-refusal : (k p : ℕ) → 1 ≤ k → (openingNumbers o ≡ (k, p, 0, 0, 0)) ↔ (o ≡ Refused k p)
+  numbers-of-refusal k p m = (there o, λ e. ap openingNumbers e)
+    where
+      there : (a : Opening) → openingNumbers a ≡ (k, p, 0, 0, 0) → a ≡ Refused k p
+      there (Opened i j l) e = absurd (let z : 0 ≡ k = ap (λ x. x .0) e in omega arith)
+      there (Refused i q) e =
+          let a : i ≡ k = ap (λ x. x .0) e in
+          let b : q ≡ p = ap (λ x. x .1) e in
+          cc
