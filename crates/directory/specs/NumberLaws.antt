@@ -1,5 +1,5 @@
 -- The numbers that the calls on a file refuse with, each within its group; so number 0 is success alone. Assumes nothing.
-use mathlib.Core.Path.{_≡_, refl, sym, ap, _∙_}
+use mathlib.Core.Path.{_≡_, refl, ap}
 use mathlib.Core.Logic.{_↔_}
 use mathlib.Core.Bool.{Bool, true, _&&_}
 use mathlib.Core.List.{List, _∷_, _++_}
@@ -18,7 +18,6 @@ use Rattle.directory.specs.Sizes.{Header}
 use Rattle.directory.specs.Kind.{Kind}
 use Rattle.directory.specs.Refusals.{Refusal, Given}
 use Rattle.directory.specs.Values.{tableRefusals}
-use Rattle.directory.specs.File.{tableIn}
 use Rattle.directory.specs.Opening.{headerRefusals, wrongMark, markRefusals, keyRefusals, recordRefusals, openRefusals}
 use Rattle.directory.specs.LookingUp.{lookupRefusals}
 use Rattle.directory.specs.Answers.{openingNumbers}

@@ -1,12 +1,12 @@
 -- What a call gives once the header has spoken: its refusal is the call's, and where it is right the call goes on with its n, r and v. Assumes nothing.
-use mathlib.Core.Path.{_≡_, sym, ap, _∙_}
+use mathlib.Core.Path.{_≡_, sym, _∙_}
 use mathlib.Core.Logic.{_⊎_}
-use mathlib.Core.List.{List, [], _∷_, _++_}
+use mathlib.Core.List.{List, [], _++_}
 use Prim.Native.Nat.{ℕ, _≤_, _<_}
 use lib.ListN.{length}
 use Rattle.directory.specs.declared.Opening.the-variants as opening
 use Rattle.directory.specs.declared.Found.the-variants as found
-use Rattle.directory.specs.Sizes.{Header, headed}
+use Rattle.directory.specs.Sizes.{headed}
 use Rattle.directory.specs.CodesLaws.{length-wrong, length-right}
 use Rattle.directory.specs.Kind.{HD}
 use Rattle.directory.specs.Refusals.{Refusal, first, NoneApplies}

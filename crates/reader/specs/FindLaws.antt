@@ -1,10 +1,9 @@
 -- What is found where a code leads, and which part of the file a line shows, case by case. Assumes nothing.
-use mathlib.Core.Path.{_≡_, sym, ap, _∙_}
+use mathlib.Core.Path.{_≡_, sym}
 use mathlib.Core.Logic.{_⊎_}
 use mathlib.Core.Bool.{true, false}
 use mathlib.Core.List.{List}
 use Prim.Native.Nat.{ℕ, _+_, _≤_, _<_}
-use lib.ListN.{length}
 use borrow.Author.Tests.{lt-ltb, le-ltb}
 use Rattle.directory.specs.declared.Lead.{Lead}
 use Rattle.directory.specs.declared.Lead.the-variants.{Nowhere, ToLine, PastLast}
@@ -13,7 +12,7 @@ use Rattle.directory.specs.Sizes.{Header, headed}
 use Rattle.directory.specs.CodesLaws.{length-wrong, length-right}
 use Rattle.directory.specs.Kind.{HD}
 use Rattle.directory.specs.Bytes.{byteAt, markLength}
-use Rattle.directory.specs.File.{keyHead, codeAt, keyLength, leadIn}
+use Rattle.directory.specs.File.{keyHead, leadIn}
 use Rattle.directory.specs.LeadLaws.{lead-below}
 use Rattle.directory.specs.LookingUp.{holdsCode, found}
 use Rattle.directory.specs.Showing.{Part, emptyPart, keyPart}

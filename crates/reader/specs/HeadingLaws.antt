@@ -7,7 +7,7 @@ use Prim.Native.Nat.{ℕ, _*_, _≤_, _<_}
 use native.Mathlib.Omega.{arith}
 use lib.Dec.{leb}
 use lib.ListN.{length}
-use borrow.Author.Tests.{eq-eqb, ne-eqb, lt-ltb, le-ltb, le-leb, leb-false, leb-true}
+use borrow.Author.Tests.{eq-eqb, ne-eqb, lt-ltb, le-ltb, leb-false, leb-true}
 use Rattle.counting.specs.TestLaws.{never-true}
 use Rattle.directory.specs.declared.Opening.the-variants.{Opened, Refused}
 use Rattle.directory.specs.Sizes.{Header, headed, mostVertices, mostCodes, headerAllowed}

@@ -1,7 +1,7 @@
 -- Where a code leads, from what was read: its landing vertex, the value there, and its line. Assumes nothing.
 use mathlib.Core.Path.{_≡_, refl, sym, ap, _∙_}
 use mathlib.Core.Logic.{_≢_}
-use mathlib.Core.Bool.{true, false, not}
+use mathlib.Core.Bool.{true, not}
 use mathlib.Core.List.{List}
 use Prim.Native.Nat.{ℕ, _/_, _%_, _≤_, _<_}
 use borrow.Author.Tests.{eq-eqb, ne-eqb, lt-ltb, le-ltb}
@@ -25,21 +25,26 @@ module _ (n r v : ℕ) (f t : List ℕ) where
   unfolding landingOf landing weightIn tableIn valuesAt weightsAt
   landing-from s x e d = d ∙ ap (λ k. vertexIn f v t (k % r)) e
 
-  module _ (y k : ℕ) (ey : y ≡ landingOf HD h f t) (ek : k ≡ valueIn (bytesFrom f (valuesFrom r)) y) where
+  -- y is the landing vertex of the code, and k the value there
+  pub record Landed (y k : ℕ) : Type 0 where
+    pub vertex : y ≡ landingOf HD h f t
+    pub value : k ≡ valueIn (bytesFrom f (valuesFrom r)) y
+
+  module _ {y k : ℕ} (here : Landed y k) where
     value-there : valueIn (tableIn HD h f) (landingOf HD h f t) ≡ k
     unfolding tableIn valuesAt weightsAt
-    value-there = ap (valueIn (bytesFrom f (valuesFrom r))) (sym ey) ∙ sym ek
+    value-there = ap (valueIn (bytesFrom f (valuesFrom r))) (sym (here .vertex)) ∙ sym (here .value)
 
     pub leads-nowhere : k ≡ r → Nowhere ≡ leadIn HD h f t
     unfolding leadIn leadOf landingOf
     leads-nowhere e = rw (value-there, e, eq-eqb r r refl)
 
-    module _ (d : k ≢ r) (l : ℕ) (el : l ≡ lineIn h (tableIn HD h f) y) where
+    module _ (d : k ≢ r) {l : ℕ} (el : l ≡ lineIn h (tableIn HD h f) y) where
       there : assigned r (valueIn (tableIn HD h f) (landingOf HD h f t)) ≡ true
       there = rw value-there (ap not (ne-eqb k r d))
 
       line-there : lineIn h (tableIn HD h f) (landingOf HD h f t) ≡ l
-      line-there = ap (lineIn h (tableIn HD h f)) (sym ey) ∙ sym el
+      line-there = ap (lineIn h (tableIn HD h f)) (sym (here .vertex)) ∙ sym el
 
       pub leads-to : l < n → ToLine l ≡ leadIn HD h f t
       unfolding leadIn leadOf landingOf
@@ -47,4 +52,4 @@ module _ (n r v : ℕ) (f t : List ℕ) where
 
       pub leads-past : n ≤ l → PastLast (y / blockSize) ≡ leadIn HD h f t
       unfolding leadIn leadOf landingOf
-      leads-past m = rw (there, line-there, le-ltb l n m, ey)
+      leads-past m = rw (there, line-there, le-ltb l n m, here .vertex)

@@ -1,5 +1,4 @@
 -- Where the records of a file with the arity r and the part size v stand, and that they stand within the file. Assumes nothing.
-use mathlib.Core.Path.{_≡_}
 use mathlib.Core.List.{List}
 use Prim.Native.Nat.{ℕ, _+_, _*_, _/_, _≤_, _<_}
 use lib.ListN.{length}

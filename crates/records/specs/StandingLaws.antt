@@ -1,5 +1,5 @@
 -- The records stand where document 01 has them: the offsets that the code computes are those of the definitions. Assumes nothing.
-use mathlib.Core.Path.{_≡_, refl, sym, ap, _∙_}
+use mathlib.Core.Path.{_≡_, refl, ap, _∙_}
 use mathlib.Core.Logic.{_≢_}
 use mathlib.Core.Bool.{false}
 use mathlib.Core.List.{List}
@@ -10,7 +10,7 @@ use lib.ListN.{length, take, drop}
 use borrow.Author.Tests.{eq-eqb, ne-eqb}
 use Rattle.counting.specs.Below.{count}
 use Rattle.counting.specs.Lists.{same}
-use Rattle.graph.specs.Assignment.{assigned, blockSize, blocks}
+use Rattle.graph.specs.Assignment.{assigned, blockSize}
 use Rattle.directory.specs.Sizes.{Header, headed, mostVertices}
 use Rattle.directory.specs.Bytes.{byteAt, twoAt, markLength}
 use Rattle.directory.specs.Kind.{HD, vertex}
@@ -44,7 +44,6 @@ module _ (n r v : ℕ) where
     pub rank-from : (b : ℕ) → twoAt f (ranksFrom r v + (markLength + 2 * b)) ≡ rankIn h (tableIn HD h f) b
     unfolding rankIn tableIn ranksAt valuesAt weightsAt
     rank-from b =
-        let at = 2 + (r * v + 3) / 4 in
         let low : 7 + (2 + 2 * (32 * r)) + (2 + (r * v + 3) / 4) + (2 + 2 * b) ≡ 7 + (2 + 2 * (32 * r)) + (2 + (r * v + 3) / 4 + (2 + 2 * b)) = omega arith in
         let high : 7 + (2 + 2 * (32 * r)) + (2 + (r * v + 3) / 4) + (2 + 2 * b) + 1 ≡ 7 + (2 + 2 * (32 * r)) + (2 + (r * v + 3) / 4 + (2 + 2 * b) + 1) = omega arith in
         omega (arith, ap (byteAt f) low, ap (byteAt f) high)

@@ -5,12 +5,12 @@ use mathlib.Core.List.{List}
 use Prim.Native.Nat.{ℕ}
 use native.Mathlib.Omega.{arith}
 use borrow.Author.Tests.{not-true, not-false}
+use borrow.Author.Needs.{needs}
 use Rattle.directory.specs.Sizes.{headed}
 use Rattle.directory.specs.Kind.{HD}
 use Rattle.directory.specs.Bytes.{marked}
 use Rattle.directory.specs.File.{headerIn}
 use Rattle.reader.specs.HeadingLaws.{allowed-room, heading-short, heading-unmarked, heading-disallowed, heading-length, heading-is}
-use borrow.Author.Needs.{needs}
 use Rattle.reader.proofs.heading.header.Statement.{statement}
 use Rattle.reader.proofs.heading.header.Tie as tie
 

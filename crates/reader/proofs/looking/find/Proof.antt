@@ -1,12 +1,12 @@
 -- `reader::looking::find` meets its contract. Assumes nothing.
 use mathlib.Core.Path.{_≡_, sym, _∙_}
+use borrow.Author.Needs.{needs}
 use Rattle.directory.specs.declared.Lead.the-variants.{ToLine}
 use Rattle.directory.specs.Sizes.{headed}
 use Rattle.directory.specs.Kind.{HD}
 use Rattle.directory.specs.File.{leadIn}
 use Rattle.records.specs.FramedLaws.{framed-tabled, framed-keyed}
 use Rattle.reader.specs.FindLaws.{found-nowhere, found-past, found-here, found-other, led-below}
-use borrow.Author.Needs.{needs}
 use Rattle.reader.proofs.looking.find.Statement.{statement}
 use Rattle.reader.proofs.looking.find.Tie as tie
 

@@ -2,10 +2,10 @@
 use mathlib.Core.Path.{_≡_, sym, _∙_}
 use mathlib.Core.Logic.{inl, inr}
 use native.Mathlib.Omega.{arith}
+use borrow.Author.Needs.{needs}
 use Rattle.directory.specs.declared.Opening.the-variants.{Opened}
 use Rattle.directory.specs.Calls.{headerOf}
 use Rattle.reader.specs.AfterHeader.{header-framed, lookup-refused, lookup-wrong, lookup-found}
-use borrow.Author.Needs.{needs}
 use Rattle.reader.proofs.looking.lookup.Statement.{statement}
 use Rattle.reader.proofs.looking.lookup.Tie as tie
 

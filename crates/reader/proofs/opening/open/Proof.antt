@@ -1,9 +1,9 @@
 -- `reader::opening::open` meets its contract. Assumes nothing.
 use mathlib.Core.Path.{_≡_, sym, _∙_}
+use borrow.Author.Needs.{needs}
 use Rattle.directory.specs.declared.Opening.the-variants.{Opened}
 use Rattle.directory.specs.Calls.{headerOf}
 use Rattle.reader.specs.AfterHeader.{header-framed, open-refused, open-rest}
-use borrow.Author.Needs.{needs}
 use Rattle.reader.proofs.opening.open.Statement.{statement}
 use Rattle.reader.proofs.opening.open.Tie as tie
 

@@ -1,13 +1,13 @@
 -- `reader::opening::open_records` meets its contract. Assumes nothing.
 use mathlib.Core.Path.{_≡_, sym, _∙_}
 use mathlib.Core.List.{_++_}
+use borrow.Author.Needs.{needs}
 use Rattle.directory.specs.Sizes.{headed}
 use Rattle.directory.specs.Kind.{HD}
 use Rattle.directory.specs.Values.{tableRefusals}
 use Rattle.directory.specs.File.{tableIn}
 use Rattle.directory.specs.Opening.{keyRefusals, recordRefusals, openedUnless}
 use Rattle.directory.specs.OpeningLaws.{unless-refused, unless-passed}
-use borrow.Author.Needs.{needs}
 use Rattle.reader.proofs.opening.open_records.Statement.{statement}
 use Rattle.reader.proofs.opening.open_records.Tie as tie
 

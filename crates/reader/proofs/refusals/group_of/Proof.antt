@@ -1,7 +1,7 @@
 -- `reader::refusals::group_of` meets its contract. Assumes nothing.
+use Prim.Native.Nat.{ℕ}
 use native.Mathlib.Omega.{arith}
 use borrow.Author.Tests.{le-leb, lt-leb}
-use Prim.Native.Nat.{ℕ, _≤_, _<_}
 use Rattle.directory.specs.Answers.{groupOf}
 use Rattle.reader.proofs.refusals.group_of.Statement.{statement}
 use Rattle.reader.proofs.refusals.group_of.Tie as tie

@@ -1,12 +1,12 @@
 -- `reader::refusals::meaning_of` meets its contract. Assumes nothing.
-use native.Mathlib.Omega.{arith}
 use mathlib.Core.Logic.{⊎-elim}
-use borrow.Author.Tests.{le-leb, lt-leb}
-use Prim.Native.Nat.{ℕ, _+_, _≤_, _<_}
 use mathlib.Core.Path.{_≡_}
 use mathlib.Core.Logic.{_⊎_, inl, inr}
 use mathlib.Core.Bool.{cond}
+use Prim.Native.Nat.{ℕ, _+_, _≤_}
+use native.Mathlib.Omega.{arith}
 use lib.Dec.{leb}
+use borrow.Author.Tests.{le-leb, lt-leb}
 use Rattle.directory.specs.declared.PlaceMeaning.the-variants.{Line, Nothing}
 use Rattle.directory.specs.Answers.{meaningOf}
 use Rattle.reader.proofs.refusals.meaning_of.Statement.{statement}

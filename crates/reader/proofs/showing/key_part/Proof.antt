@@ -3,9 +3,9 @@ use mathlib.Core.Path.{refl}
 use mathlib.Core.Logic.{inl, inr}
 use native.Mathlib.Nat.{add-sub-cancel-left}
 use native.Mathlib.Omega.{arith}
+use borrow.Author.Needs.{needs}
 use Rattle.records.specs.FramedLaws.{framed-keyed}
 use Rattle.reader.specs.FindLaws.{part-past, part-wrong, part-here}
-use borrow.Author.Needs.{needs}
 use Rattle.reader.proofs.showing.key_part.Statement.{statement}
 use Rattle.reader.proofs.showing.key_part.Tie as tie
 

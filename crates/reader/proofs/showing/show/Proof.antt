@@ -1,9 +1,9 @@
 -- `reader::showing::show` meets its contract. Assumes nothing.
 use mathlib.Core.Path.{_≡_, refl, sym, _∙_}
+use borrow.Author.Needs.{needs}
 use Rattle.directory.specs.declared.Opening.the-variants.{Opened}
 use Rattle.directory.specs.Calls.{headerOf}
 use Rattle.reader.specs.AfterHeader.{header-framed, show-refused, show-part}
-use borrow.Author.Needs.{needs}
 use Rattle.reader.proofs.showing.show.Statement.{statement}
 use Rattle.reader.proofs.showing.show.Tie as tie
 

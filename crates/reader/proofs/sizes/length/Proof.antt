@@ -1,7 +1,7 @@
 -- `reader::sizes::length` meets its contract. Assumes nothing.
 use mathlib.Core.Path.{sym, _∙_}
-use Rattle.reader.specs.HeadingLaws.{allowed-room, length-allowed, length-disallowed}
 use borrow.Author.Needs.{needs}
+use Rattle.reader.specs.HeadingLaws.{allowed-room, length-allowed, length-disallowed}
 use Rattle.reader.proofs.sizes.length.Statement.{statement}
 use Rattle.reader.proofs.sizes.length.Tie as tie
 

@@ -1,7 +1,8 @@
+-- `records::codes::holds_code` meets its contract. Assumes nothing.
 use mathlib.Core.Path.{_∙_}
 use native.Mathlib.Omega.{arith}
-use Rattle.records.specs.StandingLaws.{other-length, same-length}
 use borrow.Author.Needs.{needs}
+use Rattle.records.specs.StandingLaws.{other-length, same-length}
 use Rattle.records.proofs.codes.holds_code.Statement.{statement}
 use Rattle.records.proofs.codes.holds_code.Tie as tie
 

@@ -1,6 +1,7 @@
+-- `records::numbers::marked` meets its contract. Assumes nothing.
 use borrow.Author.Tests.{eq-eqb, ne-eqb}
-use Rattle.directory.specs.Bytes.{marked}
 use borrow.Author.Needs.{needs}
+use Rattle.directory.specs.Bytes.{marked}
 use Rattle.records.proofs.numbers.marked.Statement.{statement}
 use Rattle.records.proofs.numbers.marked.Tie as tie
 

@@ -1,7 +1,7 @@
 -- `records::values::count_assigned` meets its contract. The invariant: c is the count of the first i values. The measure is what is left of k. Assumes nothing.
 use mathlib.Core.Path.{_≡_, sym, ap, _∙_}
 use mathlib.Core.Logic.{⊎-elim}
-use Prim.Native.Nat.{ℕ, _+_, _-_, _≤_}
+use Prim.Native.Nat.{_+_, _-_, _≤_}
 use native.Mathlib.Omega.{arith}
 use Rattle.counting.specs.Below.{count}
 use Rattle.counting.specs.BelowLaws.{sum-none}

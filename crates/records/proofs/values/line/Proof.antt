@@ -1,5 +1,6 @@
-use Rattle.records.specs.StandingLaws.{line-from}
+-- `records::values::line` meets its contract. Assumes nothing.
 use borrow.Author.Needs.{needs}
+use Rattle.records.specs.StandingLaws.{line-from}
 use Rattle.records.proofs.values.line.Statement.{statement}
 use Rattle.records.proofs.values.line.Tie as tie
 

@@ -1,8 +1,9 @@
+-- `records::values::rank` meets its contract. Assumes nothing.
 use mathlib.Core.Path.{ap, _∙_}
 use Prim.Native.Nat.{_+_, _*_}
+use borrow.Author.Needs.{needs}
 use Rattle.directory.specs.Bytes.{twoAt, markLength}
 use Rattle.records.specs.StandingLaws.{rank-from}
-use borrow.Author.Needs.{needs}
 use Rattle.records.proofs.values.rank.Statement.{statement}
 use Rattle.records.proofs.values.rank.Tie as tie
 

@@ -1,10 +1,11 @@
+-- `records::values::value` meets its contract. Assumes nothing.
 use mathlib.Core.Path.{ap, _∙_}
 use Prim.Native.Nat.{_*_, _/_, _%_, _^_}
 use native.Mathlib.Nat.{mod-lt}
 use native.Mathlib.Omega.{arith}
 use lib.Bits.{and-mask}
-use Rattle.directory.specs.Values.{valueIn}
 use borrow.Author.Needs.{needs}
+use Rattle.directory.specs.Values.{valueIn}
 use Rattle.records.proofs.values.value.Statement.{statement}
 use Rattle.records.proofs.values.value.Tie as tie
 

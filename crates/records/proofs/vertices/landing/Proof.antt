@@ -2,9 +2,9 @@
 use Prim.Native.Nat.{_%_, _<_}
 use native.Mathlib.Nat.{mod-lt}
 use native.Mathlib.Omega.{arith}
+use borrow.Author.Needs.{needs}
 use Rattle.records.specs.StandingLaws.{vertex-in}
 use Rattle.records.specs.LeadLaws.{landing-from}
-use borrow.Author.Needs.{needs}
 use Rattle.records.proofs.vertices.landing.Statement.{statement}
 use Rattle.records.proofs.vertices.landing.Tie as tie
 

@@ -2,8 +2,8 @@
 use mathlib.Core.Path.{_≡_, refl, _∙_}
 use Prim.Native.Nat.{_-_, _≤_}
 use native.Mathlib.Omega.{arith}
-use borrow.Author.Needs.{needs}
 use lib.ListN.{length, length-set}
+use borrow.Author.Needs.{needs}
 use Rattle.counting.specs.Holds.{Holds}
 use Rattle.counting.specs.HoldsLaws.{holds-none, holds-more}
 use Rattle.removal.proofs.tally.clear.Statement.{statement}

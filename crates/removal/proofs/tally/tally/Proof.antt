@@ -6,8 +6,8 @@ use native.Mathlib.Omega.{arith}
 use lib.Dec.{ltb}
 use lib.ListN.{length}
 use borrow.Author.Tests.{lt-ltb}
-use Rattle.graph.specs.Peeling.{unremoved}
 use Rattle.counting.specs.Lists.{occurrences}
+use Rattle.graph.specs.Peeling.{unremoved}
 use Rattle.removal.specs.Arrays.{Held, Wide, Tallied, graphIn}
 use Rattle.removal.specs.TallyLaws.{first-one-more, tallied-none, tallied-equal, tallied-more, tallied-room}
 use Rattle.removal.proofs.tally.tally.Statement.{statement}
