@@ -2,10 +2,23 @@
 use mathlib.Core.Path.{_≡_, refl, sym, ap, _∙_}
 use mathlib.Core.Logic.{⊎-elim, _≢_}
 use Prim.Native.Nat.{ℕ, zero, suc, _+_, _*_, _%_, _≤_, _<_, zero-le}
-use native.Mathlib.Nat.{mul-zero, mul-suc, mul-comm, add-mod}
+use native.Mathlib.Nat.{add-zero, add-suc, mul-zero, mul-suc, mul-comm, add-mod}
+use native.Mathlib.Numerals.{add-one}
 use native.Mathlib.Omega.{arith}
 use Rattle.counting.specs.TestLaws.{eq?}
 use Rattle.counting.specs.Below.{sum}
+
+-- ---- one term after the other, as a loop adds them
+
+pub sum-none : (f : ℕ → ℕ) → sum 0 f ≡ 0
+unfolding sum
+sum-none f = refl
+
+pub sum-next : (k : ℕ) (f : ℕ → ℕ) → sum (k + 1) f ≡ sum k f + f k
+unfolding sum
+sum-next k f = rw (add-one k)
+
+-- ---- all terms together
 
 pub sum-mono : (k : ℕ) (f g : ℕ → ℕ) → ((i : ℕ) → i < k → f i ≤ g i) → sum k f ≤ sum k g
 unfolding sum
@@ -29,6 +42,12 @@ pub sum-add : (k : ℕ) (f g : ℕ → ℕ) → sum k (λ i. f i + g i) ≡ sum 
 unfolding sum
 sum-add zero f g = refl
 sum-add (suc k) f g = omega (arith, sum-add k f g)
+
+-- the first a parts and the b after them
+pub sum-split : (a b : ℕ) (f : ℕ → ℕ) → sum (a + b) f ≡ sum a f + sum b (λ i. f (a + i))
+unfolding sum
+sum-split a zero f = rw add-zero (omega arith)
+sum-split a (suc b) f = rw add-suc (omega (arith, sum-split a b f))
 
 -- a sum up to a lower bound is no larger
 pub sum-up-to : (j k : ℕ) (f : ℕ → ℕ) → j ≤ k → sum j f ≤ sum k f

@@ -8,7 +8,7 @@ use lib.Dec.{eqb}
 use borrow.Author.Tests.{eq-eqb, ne-eqb}
 use Rattle.counting.specs.TestLaws.{eq?, lt?, and-both, and-true, and-false}
 use Rattle.counting.specs.Below.{sum, bit, count}
-use Rattle.counting.specs.BelowLaws.{sum-mono, sum-constant, sum-zero, sum-up-to, sum-part, sum-two, sum-but}
+use Rattle.counting.specs.BelowLaws.{sum-next, sum-mono, sum-constant, sum-zero, sum-up-to, sum-part, sum-two, sum-but}
 
 -- ---- bits
 
@@ -31,6 +31,12 @@ pub bit-other : (e f : ℕ) → e ≢ f → bit (eqb e f) ≡ 0
 bit-other e f d = ap bit (ne-eqb e f d)
 
 -- ---- counts
+
+pub count-in : (k : ℕ) (p : ℕ → Bool) → p k ≡ true → count (k + 1) p ≡ count k p + 1
+count-in k p t = sum-next k (λ i. bit (p i)) ∙ ap (λ b. count k p + bit b) t
+
+pub count-out : (k : ℕ) (p : ℕ → Bool) → p k ≡ false → count (k + 1) p ≡ count k p
+count-out k p t = omega (arith, sum-next k (λ i. bit (p i)), ap bit t)
 
 pub count-most : (k : ℕ) (p : ℕ → Bool) → count k p ≤ k
 count-most k p = omega (arith, sum-mono k (λ i. bit (p i)) (λ i. 1) (λ i l. bit-most (p i)), sum-constant k 1)

@@ -5,6 +5,8 @@ pub mod CountLaws
 pub mod SearchLaws
 pub mod Lists
 pub mod ListsLaws
+pub mod EachLaws
 pub mod OccurrenceLaws
+pub mod Widths
 pub mod Holds
 pub mod HoldsLaws

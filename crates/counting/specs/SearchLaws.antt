@@ -6,7 +6,7 @@ use Prim.Native.Nat.{ℕ, zero, suc, _+_, _≤_, _<_}
 use native.Mathlib.Omega.{arith}
 use lib.Dec.{ltb}
 use borrow.Author.Tests.{ltb-true, ltb-false, lt-ltb, le-ltb}
-use Rattle.counting.specs.TestLaws.{eq?, lt?, clash, or-second}
+use Rattle.counting.specs.TestLaws.{eq?, lt?, clash, never-true, or-second}
 use Rattle.counting.specs.Below.{sum, bit, count, any, lowest}
 use Rattle.counting.specs.CountLaws.{count-one}
 
@@ -30,6 +30,9 @@ any-none k p h = go (any k p) refl
     go : (b : Bool) → any k p ≡ b → any k p ≡ false
     go true t = let w = any-some k p t in absurd (clash (w .2) (h (w .0) (w .1)))
     go false t = t
+
+pub any-false : (k : ℕ) (p : ℕ → Bool) → any k p ≡ false → (i : ℕ) → i < k → p i ≡ false
+any-false k p h i l = never-true (p i) (λ t. clash (any-has k p i l t) h)
 
 pub any-equal : (k : ℕ) (p q : ℕ → Bool) → ((i : ℕ) → i < k → p i ≡ q i) → any k p ≡ any k q
 unfolding any

@@ -58,3 +58,10 @@ or-second false b t = t
 pub or-neither : (a b : Bool) → a || b ≡ false → a ≡ false
 or-neither true b t = t
 or-neither false b t = refl
+
+pub or-neither-second : (a b : Bool) → a || b ≡ false → b ≡ false
+or-neither-second true b t = cc
+or-neither-second false b t = t
+
+pub or-none : {a b : Bool} → a ≡ false → b ≡ false → a || b ≡ false
+or-none s t = cc

@@ -1,9 +1,10 @@
--- Bytes: numbers in two of them, the low one first, and records under their marks. Assumes nothing.
+-- Bytes: numbers in two of them, the low one first, records under their marks, and lists that stand in longer ones. Assumes nothing.
+use mathlib.Core.Path.{_≡_}
 use mathlib.Core.Bool.{Bool, _&&_}
 use mathlib.Core.List.{List, [], _∷_}
-use Prim.Native.Nat.{ℕ, _+_, _*_, _/_, _%_}
+use Prim.Native.Nat.{ℕ, _+_, _*_, _/_, _%_, _<_}
 use lib.Dec.{eqb}
-use lib.ListN.{getD}
+use lib.ListN.{length, getD}
 
 -- a number below 65,536 in two bytes, and read back at offset a of the bytes B 0, B 1, ..
 abbrev pub two : ℕ → List ℕ
@@ -44,3 +45,9 @@ under mark bytes = mark .0 ∷ mark .1 ∷ bytes
 -- the mark stands at offset a of the file
 unfoldable pub marked : List ℕ → ℕ → ℕ × ℕ → Bool
 marked f a mark = eqb (byteAt f a) (mark .0) && eqb (byteAt f (a + 1)) (mark .1)
+
+-- ---- lists in longer ones
+
+-- the list t stands at offset a of the bytes B 0, B 1, ..
+pub record Stands (B : ℕ → ℕ) (a : ℕ) (t : List ℕ) : Type 0 where
+  pub byte : (i : ℕ) → i < length t → B (a + i) ≡ getD t i 0

@@ -1,4 +1,4 @@
--- The largest sum, and the vertices of a code each in its own part, as document 01 states them. Assumes nothing.
+-- The largest sum, and the vertices of a code each in its own part, as document 01 states them; and which weights they depend on. Assumes nothing.
 use mathlib.Core.Path.{_≡_, refl, sym, ap, _∙_}
 use mathlib.Core.Logic.{_≢_}
 use mathlib.Core.List.{List}
@@ -8,7 +8,8 @@ use native.Mathlib.Omega.{arith}
 use lib.Arith.{digits-lt, digits-div}
 use lib.ListN.{length, getD, replicate}
 use Rattle.counting.specs.Below.{sum}
-use Rattle.counting.specs.BelowLaws.{sum-mono, sum-constant}
+use Rattle.counting.specs.BelowLaws.{sum-mono, sum-equal, sum-constant}
+use Rattle.counting.specs.EachLaws.{place-inside}
 use Rattle.directory.specs.Kind.{Kind, HD, codeSum, vertex}
 
 abbrev largestSum : ℕ
@@ -40,3 +41,9 @@ module _ (K : Kind) (v : ℕ) (weight : ℕ → ℕ) (t : List ℕ) (some : 1 �
   -- .. and the vertices of one code always differ
   pub vertices-differ : (j k : ℕ) → j ≢ k → vertex K v weight t j ≢ vertex K v weight t k
   vertices-differ j k d e = d (sym (vertex-part j) ∙ ap (λ x. x / v) e ∙ vertex-part k)
+
+-- weights that agree on the r parts give a code the same r vertices
+pub vertex-equal : (K : Kind) (r v : ℕ) (weight stored : ℕ → ℕ) (t : List ℕ) → length t ≤ K .positions → ((i : ℕ) → i < K .positions * r → weight i ≡ stored i) → (j : ℕ) → j < r → vertex K v weight t j ≡ vertex K v stored t j
+unfolding vertex codeSum
+vertex-equal K r v weight stored t short same j l =
+    ap (λ s. s % v + j * v) (sum-equal (length t) _ _ (λ i m. ap (λ w. (getD t i 0 + K .plus) * w) (same (K .positions * j + i) (place-inside (K .positions) r j i l (omega arith)))))

@@ -45,3 +45,20 @@ pub enum PlaceMeaning {
     RankEntry,
     Line,
 }
+
+// The refusals of a file and of a code that is asked for, by document 01's numbers.
+pub const WRONG_SIZE: u8 = 9;
+
+pub const WRONG_MARK: u8 = 10;
+
+pub const WRONG_HEADER: u8 = 11;
+
+pub const WRONG_VALUE: u8 = 12;
+
+pub const WRONG_RANK: u8 = 13;
+
+pub const WRONG_KEY: u8 = 14;
+
+pub const STRAY_CODE: u8 = 15;
+
+pub const WRONG_CODE: u8 = 16;

@@ -3,13 +3,12 @@ use mathlib.Core.Path.{_≡_, refl, sym, ap, fun-ext, _∙_}
 use mathlib.Core.Logic.{⊎-elim, _≢_}
 use mathlib.Core.Bool.{Bool, not, _&&_, _||_, cond}
 use mathlib.Core.List.{List, [], _∷_, _++_}
-use Prim.Native.Nat.{ℕ, zero, suc, _%_, _≤_, _<_}
-use native.Mathlib.Nat.{mod-lt}
+use Prim.Native.Nat.{ℕ, zero, suc, _≤_, _<_}
 use native.Mathlib.Omega.{arith}
 use lib.Dec.{eqb}
 use borrow.Author.Tests.{eq-eqb}
 use Rattle.counting.specs.TestLaws.{eq?}
-use Rattle.counting.specs.Below.{sum, bit, count, lowest}
+use Rattle.counting.specs.Below.{bit, count, lowest}
 use Rattle.counting.specs.BelowLaws.{sum-equal, sum-zero}
 use Rattle.counting.specs.SearchLaws.{any-equal, lowest-equal}
 use Rattle.counting.specs.OccurrenceLaws.{those-equal}
@@ -21,6 +20,7 @@ use Rattle.graph.specs.Agree.{Agree}
 use Rattle.graph.specs.PeelingLaws.{front-edge, reached-peeled}
 use Rattle.graph.specs.OrderLaws.{Ordered, none, more, removal-ordered}
 use Rattle.graph.specs.AssignmentLaws.{new-place, values-most}
+use Rattle.graph.specs.RankLaws.{landing-equal}
 
 -- as many edges and vertices as G has, and the edges name what g says
 abbrev renamed : Graph → (ℕ → ℕ → ℕ) → Graph
@@ -126,11 +126,10 @@ module _ {G H : Graph} (a : Agree G H) where
 
   -- an edge that names no vertex would land on what vertexOf says past the arity, so each has to name one
   pub agree-landing : 1 ≤ G .arity → (e : ℕ) → e < G .edges → landingVertex G e ≡ landingVertex H e
-  unfolding landingVertex landing
+  unfolding landingVertex
   agree-landing h e l =
-      a .sameVertices e _ l (mod-lt _ h)
-      ∙ ap (λ s. H .vertexOf e (s % G .arity)) (sum-equal (G .arity) _ _ (λ j m. agree-values _ ∙ ap (values H) (a .sameVertices e j l m)))
-      ∙ ap (λ r. H .vertexOf e (sum r (λ j. values H (H .vertexOf e j)) % r)) (a .sameArity)
+      landing-equal (G .arity) (values G) (values H) (G .vertexOf e) (H .vertexOf e) h (λ j. a .sameVertices e j l) (λ j m. agree-values _)
+      ∙ ap (λ r. landing r (values H) (H .vertexOf e)) (a .sameArity)
 
   -- but its line is the same even so
   pub agree-line : (e : ℕ) → e < G .edges → line G e ≡ line H e

@@ -17,5 +17,6 @@ pub mod AssignmentLaws
 pub mod PutBackLaws
 pub mod LandingLaws
 pub mod LineLaws
+pub mod RankLaws
 pub mod AgreeLaws
 pub mod Theorems

@@ -7,7 +7,8 @@ use lib.ListN.{length, getD, set}
 use Rattle.counting.specs.Below.{sum, lowest}
 use Rattle.graph.specs.Peeling.{unremoved, removalList, numberLeft}
 use Rattle.graph.specs.Assignment.{minusMod}
-use Rattle.removal.specs.Arrays.{oneByte, graphIn, vertexAt, Held, Vertices, Wide, Tallied}
+use Rattle.counting.specs.Widths.{oneByte}
+use Rattle.removal.specs.Arrays.{graphIn, vertexAt, Held, Vertices, Wide, Tallied}
 use Rattle.removal.specs.Linking.{Added, Room}
 
 -- the lowest j whose vertex has degree 0, so is unvisited

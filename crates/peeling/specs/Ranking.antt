@@ -4,7 +4,8 @@ use mathlib.Core.List.{List}
 use Prim.Native.Nat.{ℕ, _≤_, _<_}
 use lib.ListN.{length, getD}
 use Rattle.graph.specs.Assignment.{landing}
-use Rattle.removal.specs.Arrays.{oneByte, twoBytes, vertexAt, Vertices}
+use Rattle.counting.specs.Widths.{oneByte, twoBytes}
+use Rattle.removal.specs.Arrays.{vertexAt, Vertices}
 
 -- what stands below the landing vertex of edge e
 abbrev pub lineIn : ℕ → List ℕ → List ℕ → List ℕ → ℕ → ℕ

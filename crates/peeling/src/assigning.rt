@@ -8,7 +8,8 @@ ghost use lib.ListN.{length, getD};
 ghost use Rattle.counting.specs.Below.{sum};
 ghost use Rattle.graph.specs.Assignment.{values as valuesOf};
 ghost use Rattle.counting.specs.Holds.{Holds};
-ghost use Rattle.removal.specs.Arrays.{oneByte, vertexAt, graphIn, Vertices};
+ghost use Rattle.counting.specs.Widths.{oneByte};
+ghost use Rattle.removal.specs.Arrays.{vertexAt, graphIn, Vertices};
 ghost use Rattle.peeling.specs.Assigning.{Free, Given, AllRemoved};
 
 // No vertex is assigned.

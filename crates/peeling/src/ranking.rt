@@ -6,7 +6,7 @@ ghost use Prim.Native.Nat.{_*_, _<_};
 ghost use lib.ListN.{length, getD};
 ghost use Rattle.graph.specs.Assignment.{assignedBelow, blockSize, blocks};
 ghost use Rattle.counting.specs.Holds.{Holds};
-ghost use Rattle.removal.specs.Arrays.{twoBytes};
+ghost use Rattle.counting.specs.Widths.{twoBytes};
 ghost use Rattle.peeling.specs.Ranking.{Distinct, Keyed};
 
 // A rank entry stands for each block of so many vertices.

@@ -6,14 +6,8 @@ use Prim.Native.Nat.{ℕ, _+_, _*_, _≤_, _<_}
 use lib.ListN.{length, getD}
 use Rattle.counting.specs.Below.{sum, bit}
 use Rattle.counting.specs.Holds.{Holds}
+use Rattle.counting.specs.Widths.{oneByte, twoBytes}
 use Rattle.graph.specs.Graph.{Graph, Proper, names, degreeIn}
-
--- what two bytes, and one, do not hold any more
-abbrev pub twoBytes : ℕ
-twoBytes = 65536
-
-abbrev pub oneByte : ℕ
-oneByte = 256
 
 -- vertex j of edge e stands at e * r + j
 abbrev pub vertexAt : ℕ → List ℕ → ℕ → ℕ → ℕ

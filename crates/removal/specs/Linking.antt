@@ -5,7 +5,8 @@ use Prim.Native.Nat.{ℕ, _+_, _*_, _≤_, _<_}
 use lib.Dec.{eqb}
 use lib.ListN.{length, getD}
 use Rattle.counting.specs.Below.{count}
-use Rattle.removal.specs.Arrays.{twoBytes, vertexAt, Vertices}
+use Rattle.counting.specs.Widths.{twoBytes}
+use Rattle.removal.specs.Arrays.{vertexAt, Vertices}
 
 -- what four bytes do not hold any more
 abbrev pub fourBytes : ℕ

@@ -15,7 +15,8 @@ use Rattle.counting.specs.TestLaws.{eq?}
 use Rattle.counting.specs.Below.{sum, bit}
 use Rattle.counting.specs.BelowLaws.{sum-up-to}
 use Rattle.counting.specs.CountLaws.{bit-self}
-use Rattle.removal.specs.Arrays.{twoBytes, vertexAt}
+use Rattle.counting.specs.Widths.{twoBytes}
+use Rattle.removal.specs.Arrays.{vertexAt}
 use Rattle.removal.specs.Linking.{fourBytes, times, Added, Room, Enough}
 
 -- ---- one entry of an array raised by w

@@ -20,7 +20,8 @@ use Rattle.graph.specs.Peeling.{unremoved, degree, oneLeft}
 use Rattle.graph.specs.DegreeLaws.{OneMore, absent-unremoved, weighed-more, degree-more, degree-equal}
 use Rattle.graph.specs.QueueLaws.{one-left}
 use Rattle.counting.specs.Holds.{Holds}
-use Rattle.removal.specs.Arrays.{twoBytes, vertexAt, graphIn, Held, Vertices, Wide, indexSum, Tallied}
+use Rattle.counting.specs.Widths.{twoBytes}
+use Rattle.removal.specs.Arrays.{vertexAt, graphIn, Held, Vertices, Wide, indexSum, Tallied}
 use Rattle.removal.specs.Linking.{fourBytes, times, Added, Room, Enough}
 
 -- the vertices of an edge can be read, and are places of an array that is wide enough

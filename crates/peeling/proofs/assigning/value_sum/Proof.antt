@@ -5,7 +5,8 @@ use native.Mathlib.Numerals.{add-one}
 use native.Mathlib.Omega.{arith}
 use lib.ListN.{getD}
 use Rattle.counting.specs.Below.{sum}
-use Rattle.removal.specs.Arrays.{oneByte, vertexAt}
+use Rattle.counting.specs.Widths.{oneByte}
+use Rattle.removal.specs.Arrays.{vertexAt}
 use Rattle.peeling.proofs.assigning.value_sum.Statement.{statement}
 use Rattle.peeling.proofs.assigning.value_sum.Tie as tie
 

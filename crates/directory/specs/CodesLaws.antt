@@ -1,0 +1,24 @@
+-- The numbers of bytes that a code may have, as facts. Assumes nothing.
+use mathlib.Core.Path.{_≡_}
+use mathlib.Core.Logic.{_⊎_, inl, inr, ⊎-elim, _↔_}
+use mathlib.Core.Bool.{true, false}
+use Prim.Native.Nat.{ℕ, _≤_, _<_}
+use native.Mathlib.Omega.{arith}
+use lib.Dec.{eqb, ltb}
+use borrow.Author.Tests.{eqb-true, eqb-false, eq-eqb, ne-eqb, ltb-true, ltb-false, lt-ltb, le-ltb}
+use Rattle.counting.specs.TestLaws.{or-either, or-second, or-neither, or-neither-second, or-none}
+use Rattle.directory.specs.Codes.{wrongLength}
+
+pub length-wrong : (most k : ℕ) → (wrongLength most k ≡ true) ↔ ((k ≡ 0) ⊎ (most < k))
+unfolding wrongLength
+length-wrong most k = (
+  λ t. ⊎-elim (λ a. inl (eqb-true k 0 a)) (λ a. inr (ltb-true most k a)) (or-either (eqb k 0) (ltb most k) t),
+  ⊎-elim (λ e. rw (eq-eqb k 0 e)) (λ l. or-second (eqb k 0) (ltb most k) (lt-ltb most k l)),
+)
+
+pub length-right : (most k : ℕ) → (wrongLength most k ≡ false) ↔ ((1 ≤ k) × (k ≤ most))
+unfolding wrongLength
+length-right most k = (
+  λ t. let d = eqb-false k 0 (or-neither (eqb k 0) (ltb most k) t) in (omega arith, ltb-false most k (or-neither-second (eqb k 0) (ltb most k) t)),
+  λ w. or-none (ne-eqb k 0 (omega arith)) (le-ltb most k (w .1)),
+)

@@ -1,0 +1,80 @@
+-- What the sizes, the length of a file and the header call give, test by test, with the numbers as the code has them. Assumes nothing.
+use mathlib.Core.Path.{_≡_, refl, sym, _∙_}
+use mathlib.Core.Logic.{_≢_}
+use mathlib.Core.Bool.{Bool, true, false}
+use mathlib.Core.List.{List}
+use Prim.Native.Nat.{ℕ, _*_, _≤_, _<_}
+use native.Mathlib.Omega.{arith}
+use lib.Dec.{leb}
+use lib.ListN.{length}
+use borrow.Author.Tests.{eq-eqb, ne-eqb, lt-ltb, le-ltb, le-leb, leb-false, leb-true}
+use Rattle.counting.specs.TestLaws.{never-true}
+use Rattle.directory.specs.declared.Opening.the-variants.{Opened, Refused}
+use Rattle.directory.specs.Sizes.{Header, headed, mostVertices, mostCodes, headerAllowed}
+use Rattle.directory.specs.Kind.{HD}
+use Rattle.directory.specs.Bytes.{marked}
+use Rattle.directory.specs.Refusals.{first}
+use Rattle.directory.specs.File.{headerLength, headerIn}
+use Rattle.directory.specs.Whole.{Sized}
+use Rattle.directory.specs.WholeLaws.{sized-true, true-sized}
+use Rattle.directory.specs.Opening.{headerRefusals, openedUnless, header}
+use Rattle.directory.specs.Calls.{lengthOf, headerOf}
+use Rattle.records.specs.Standing.{Room, keyFrom}
+use Rattle.records.specs.StandingLaws.{length-from, part-most}
+use Rattle.records.specs.FramedLaws.{sized-room}
+
+-- ---- the sizes
+
+pub disallowed : (h : Header) → (Sized h → ⊥) → false ≡ headerAllowed h
+disallowed h d = sym (never-true (headerAllowed h) (λ t. d (sized-true h t)))
+
+pub allowed-room : (n r v : ℕ) → headerAllowed (headed n r v) ≡ true → Room r v × (n ≤ mostCodes)
+allowed-room n r v t = let s = sized-true (headed n r v) t in (sized-room n r v s, s .few)
+
+-- a part size over all vertices
+pub part-too-large : (n r v : ℕ) → mostVertices < v → false ≡ headerAllowed (headed n r v)
+part-too-large n r v l = disallowed (headed n r v) (λ s. omega (arith, part-most r v (sized-room n r v s)))
+
+-- where all else is allowed, the product decides
+pub product-decides : (n r v : ℕ) → n ≤ mostCodes → 2 ≤ r → r ≤ 3 → 1 ≤ v → leb (r * v) mostVertices ≡ headerAllowed (headed n r v)
+product-decides n r v few two three some = go (leb (r * v) mostVertices) refl
+  where
+    go : (b : Bool) → leb (r * v) mostVertices ≡ b → b ≡ headerAllowed (headed n r v)
+    go true t = sym (true-sized (headed n r v) (record { two = two; three = three; some = some; room = leb-true (r * v) mostVertices t; few = few }))
+    go false t = disallowed (headed n r v) (λ s. omega (arith, leb-false (r * v) mostVertices t, s .room))
+
+-- ---- the length of a file
+
+pub length-allowed : (n r v : ℕ) → headerAllowed (headed n r v) ≡ true → keyFrom r v n ≡ lengthOf n r v
+unfolding lengthOf
+length-allowed n r v t = rw t (length-from n r v)
+
+pub length-disallowed : (n r v : ℕ) → headerAllowed (headed n r v) ≡ false → 0 ≡ lengthOf n r v
+unfolding lengthOf
+length-disallowed n r v t = rw t
+
+-- ---- the header
+
+module _ (f : List ℕ) where
+  pub heading-short : length f < headerLength → Refused 9 0 ≡ headerOf f
+  unfolding headerOf header openedUnless headerRefusals first
+  heading-short l = rw (lt-ltb (length f) headerLength l)
+
+  module _ (long : headerLength ≤ length f) where
+    pub heading-unmarked : marked f 0 (HD .mark) ≡ false → Refused 10 0 ≡ headerOf f
+    unfolding headerOf header openedUnless headerRefusals first
+    heading-unmarked t = rw (le-ltb (length f) headerLength long, t)
+
+    module _ (mark : marked f 0 (HD .mark) ≡ true) (n r v : ℕ) (e : headerIn f ≡ headed n r v) where
+      pub heading-disallowed : headerAllowed (headed n r v) ≡ false → Refused 11 0 ≡ headerOf f
+      unfolding headerOf header openedUnless headerRefusals first
+      heading-disallowed t = rw (le-ltb (length f) headerLength long, mark, e, t)
+
+      module _ (right : headerAllowed (headed n r v) ≡ true) where
+        pub heading-length : length f ≢ keyFrom r v n → Refused 9 0 ≡ headerOf f
+        unfolding headerOf header openedUnless headerRefusals first
+        heading-length d = rw (le-ltb (length f) headerLength long, mark, e, right, ne-eqb _ _ (λ i. d (i ∙ sym (length-from n r v))))
+
+        pub heading-is : length f ≡ keyFrom r v n → Opened n r v ≡ headerOf f
+        unfolding headerOf header openedUnless headerRefusals first
+        heading-is i = rw (le-ltb (length f) headerLength long, mark, e, right, eq-eqb _ _ (i ∙ length-from n r v))

@@ -1,0 +1,3 @@
+pub mod HeadingLaws
+pub mod AfterHeader
+pub mod FindLaws

@@ -1,0 +1,50 @@
+-- Where a code leads, from what was read: its landing vertex, the value there, and its line. Assumes nothing.
+use mathlib.Core.Path.{_≡_, refl, sym, ap, _∙_}
+use mathlib.Core.Logic.{_≢_}
+use mathlib.Core.Bool.{true, false, not}
+use mathlib.Core.List.{List}
+use Prim.Native.Nat.{ℕ, _/_, _%_, _≤_, _<_}
+use borrow.Author.Tests.{eq-eqb, ne-eqb, lt-ltb, le-ltb}
+use Rattle.counting.specs.Below.{sum}
+use Rattle.graph.specs.Assignment.{assigned, landing, blockSize}
+use Rattle.directory.specs.declared.Lead.the-variants.{Nowhere, ToLine, PastLast}
+use Rattle.directory.specs.Sizes.{Header, headed}
+use Rattle.directory.specs.Kind.{HD}
+use Rattle.directory.specs.Values.{valueIn, lineIn}
+use Rattle.directory.specs.Leads.{leadOf}
+use Rattle.directory.specs.File.{weightsAt, valuesAt, weightIn, tableIn, leadIn}
+use Rattle.directory.specs.Whole.{landingOf}
+use Rattle.records.specs.Standing.{bytesFrom, valuesFrom}
+use Rattle.records.specs.ReadingSteps.{vertexIn}
+
+module _ (n r v : ℕ) (f t : List ℕ) where
+  abbrev h : Header
+  h = headed n r v
+
+  pub landing-from : (s x : ℕ) → s ≡ sum r (λ j. valueIn (bytesFrom f (valuesFrom r)) (vertexIn f v t j)) → x ≡ vertexIn f v t (s % r) → x ≡ landingOf HD h f t
+  unfolding landingOf landing weightIn tableIn valuesAt weightsAt
+  landing-from s x e d = d ∙ ap (λ k. vertexIn f v t (k % r)) e
+
+  module _ (y k : ℕ) (ey : y ≡ landingOf HD h f t) (ek : k ≡ valueIn (bytesFrom f (valuesFrom r)) y) where
+    value-there : valueIn (tableIn HD h f) (landingOf HD h f t) ≡ k
+    unfolding tableIn valuesAt weightsAt
+    value-there = ap (valueIn (bytesFrom f (valuesFrom r))) (sym ey) ∙ sym ek
+
+    pub leads-nowhere : k ≡ r → Nowhere ≡ leadIn HD h f t
+    unfolding leadIn leadOf landingOf
+    leads-nowhere e = rw (value-there, e, eq-eqb r r refl)
+
+    module _ (d : k ≢ r) (l : ℕ) (el : l ≡ lineIn h (tableIn HD h f) y) where
+      there : assigned r (valueIn (tableIn HD h f) (landingOf HD h f t)) ≡ true
+      there = rw value-there (ap not (ne-eqb k r d))
+
+      line-there : lineIn h (tableIn HD h f) (landingOf HD h f t) ≡ l
+      line-there = ap (lineIn h (tableIn HD h f)) (sym ey) ∙ sym el
+
+      pub leads-to : l < n → ToLine l ≡ leadIn HD h f t
+      unfolding leadIn leadOf landingOf
+      leads-to m = rw (there, line-there, lt-ltb l n m)
+
+      pub leads-past : n ≤ l → PastLast (y / blockSize) ≡ leadIn HD h f t
+      unfolding leadIn leadOf landingOf
+      leads-past m = rw (there, line-there, le-ltb l n m, ey)

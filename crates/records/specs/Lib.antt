@@ -1,0 +1,5 @@
+pub mod Standing
+pub mod StandingLaws
+pub mod FramedLaws
+pub mod ReadingSteps
+pub mod LeadLaws

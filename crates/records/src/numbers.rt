@@ -1,0 +1,30 @@
+// Marks and numbers in the bytes of a file.
+ghost use mathlib.Core.Path.{_≡_};
+ghost use Prim.Native.Nat.{_+_, _<_};
+ghost use lib.ListN.{length};
+ghost use Rattle.counting.specs.Widths.{oneByte, twoBytes};
+ghost use Rattle.directory.specs.Bytes.{byteAt, twoAt, marked as markedAt};
+
+// A byte, as a number.
+pub fn byte(file: &[u8], at: usize) -> usize
+    requires { ⌜ at < length (now file) ⌝ }
+    ensures { λ x. ⌜ (x ≡ byteAt (now (file .entry)) at) × (x < oneByte) ⌝ }
+{
+    file[at] as usize
+}
+
+// A number in two bytes, the low one first.
+pub fn two(file: &[u8], at: usize) -> usize
+    requires { ⌜ at + 1 < length (now file) ⌝ }
+    ensures { λ x. ⌜ (x ≡ twoAt (now (file .entry)) at) × (x < twoBytes) ⌝ }
+{
+    byte(file, at) + 256 * byte(file, at + 1)
+}
+
+// Whether the mark of these two letters stands at an offset.
+pub fn marked(file: &[u8], at: usize, a: u8, b: u8) -> bool
+    requires { ⌜ at + 1 < length (now file) ⌝ }
+    ensures { λ yes. ⌜ yes ≡ markedAt (now (file .entry)) at (a, b) ⌝ }
+{
+    file[at] == a && file[at + 1] == b
+}

@@ -1,0 +1,42 @@
+// Where the records of a file stand.
+ghost use mathlib.Core.Path.{_≡_};
+ghost use Prim.Native.Nat.{_≤_};
+ghost use Rattle.directory.specs.Sizes.{mostCodes};
+ghost use Rattle.records.specs.Standing.{Room, valuesFrom, ranksFrom, keyFrom};
+
+// The header: its mark, n, r and v.
+pub const HEADER: usize = 7;
+
+// A mark has two letters.
+pub const MARK: usize = 2;
+
+// The most bytes of a code; so many weights belong to each part.
+pub const POSITIONS: usize = 32;
+
+// The mark and the length before the code in a KY record.
+pub const KEY_HEAD: usize = 3;
+
+// The values stand here, under the mark of GV.
+pub fn values_at(r: usize) -> usize
+    requires { ⌜ r ≤ 3 ⌝ }
+    ensures { λ a. ⌜ a ≡ valuesFrom r ⌝ }
+{
+    HEADER + (MARK + 2 * (POSITIONS * r))
+}
+
+// The rank entries stand here, under the mark of RK.
+pub fn ranks_at(r: usize, v: usize) -> usize
+    requires { ⌜ Room r v ⌝ }
+    ensures { λ a. ⌜ a ≡ ranksFrom r v ⌝ }
+{
+    values_at(r) + (MARK + (r * v + 3) / 4)
+}
+
+// The KY record of line l stands here, and the file ends where that of line n would.
+pub fn key_at(r: usize, v: usize, l: usize) -> usize
+    requires room { ⌜ Room r v ⌝ }
+    requires few { ⌜ l ≤ mostCodes ⌝ }
+    ensures { λ a. ⌜ a ≡ keyFrom r v l ⌝ }
+{
+    ranks_at(r, v) + (MARK + 2 * ((r * v + 63) / 64)) + (KEY_HEAD + POSITIONS) * l
+}
