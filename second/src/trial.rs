@@ -15,7 +15,7 @@ use crate::text::{bytes_of_hex, decimal, excerpt, hex};
 use crate::{length, lookup, open, show, Found, Refusal};
 
 /// The most bytes of the file under trial, and of a code that is looked up.
-const LONGEST_FILE: usize = 65_536;
+pub const LONGEST_FILE: usize = 65_536;
 const LONGEST_CODE_ASKED: usize = 4_096;
 
 /// The answers to vectors, or words about the first line that is no vector.

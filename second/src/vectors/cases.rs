@@ -43,14 +43,17 @@ fn longest_codes_and_largest_parts(script: &mut Script) {
     script.comment("case 11: a code of 32 bytes, and 31 and 33 of them");
     let longer: Vec<u8> = (1..=33).map(|i| 7 * i).collect();
     let longest = &longer[..LONGEST_CODE];
-    read_all(
-        script,
-        &directory(&[longest], 2, 4, &diagonal(2)),
-        &[longest],
-    );
+    let file = directory(&[longest], 2, 4, &diagonal(2));
+    read_all(script, &file, &[longest]);
     script.lookup(&longest[1..]);
     script.lookup(&longest[..LONGEST_CODE - 1]);
     script.lookup(&longer);
+    script.comment("a stored length of 33 or 255, and 32 bytes that are the code's");
+    for stored_length in [33, 255] {
+        let place = length_place(&Header { n: 1, r: 2, v: 4 }, 0);
+        let file = changed(&file, |file| file[place] = stored_length);
+        read_all(script, &file, &[longest]);
+    }
     for (r, v) in [(2, 2_048), (3, 1_365)] {
         script.comment(&format!("case 11: r = {r}, v = {v}"));
         let codes: [&[u8]; 2] = [b"BA", b"\xFF\xFE\xFD"];

@@ -7,6 +7,7 @@ use super::script::Script;
 use crate::header::{checked_header, Header};
 use crate::random::Random;
 use crate::sizes::{BLOCK, MARK_BYTES, MOST_CODES, MOST_VERTICES, NUMBER_BYTES, WEIGHTS_OF_A_PART};
+use crate::trial::LONGEST_FILE;
 
 pub fn write(script: &mut Script, random: &mut Random) {
     groups(script);
@@ -183,7 +184,7 @@ fn damage_to_many(script: &mut Script, file: &[u8], header: Header, codes: &[Vec
         script.lookup(&codes[BLOCK]);
         script.show(header.n as u64 - 1);
     }
-    for length in [file.len() - 1, file.len() + 1] {
+    for length in [file.len() - 1, file.len() + 1, LONGEST_FILE] {
         script.file(&changed(file, |file| file.resize(length, 0)));
         script.open();
         script.lookup(&codes[0]);

@@ -84,14 +84,15 @@ fn header_numbers() -> Vec<Change> {
     changes
 }
 
-/// One byte less, one more, a KY record less or more, numbers in the header that are allowed and
-/// call for another length, and the header alone.
+/// One byte less, one more, a KY record less or more, 256 bytes more, numbers in the header that
+/// are allowed and call for another length, and the header alone.
 fn lengths() -> Vec<Change> {
     vec![
         change(|file| file.truncate(file.len() - 1)),
         change(|file| file.push(0)),
         change(|file| file.truncate(file.len() - KEY_BYTES)),
         change(|file| file.resize(file.len() + KEY_BYTES, 0)),
+        change(|file| file.resize(file.len() + 256, 0)),
         byte(N, |n| n - 1),
         number(N, MOST_CODES),
         change(|file| {

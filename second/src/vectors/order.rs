@@ -66,6 +66,7 @@ fn together(script: &mut Script, file: &[u8], header: &Header, first: &Kind, lat
             }));
             script.open();
             script.lookup(stored_code(file, header, header.n - 1));
+            script.show(0);
         }
     }
 }
