@@ -1,0 +1,4 @@
+pub mod RefusalSteps
+pub mod MarkSteps
+pub mod TableSteps
+pub mod KeySteps

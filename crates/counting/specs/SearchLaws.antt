@@ -107,3 +107,10 @@ any-lowest k p = go (any k p) refl
     go : (b : Bool) → any k p ≡ b → b ≡ ltb (lowest k p) k
     go true t = let w = any-some k p t in sym (lt-ltb _ _ (lowest-some k p (w .0) (w .1) (w .2) .0))
     go false t = ⊎-elim (λ (l : lowest k p < k). absurd (clash (any-has k p (lowest k p) l (lowest-is k p .passes l)) t)) (λ (l : k ≤ lowest k p). sym (le-ltb _ _ l)) (lt? (lowest k p) k)
+
+-- so the lowest, once it is found, tells whether some number passes
+pub lowest-found : (k : ℕ) (p : ℕ → Bool) (i : ℕ) → i ≡ lowest k p → i < k → any k p ≡ true
+lowest-found k p i e l = any-lowest k p ∙ rw (← e) (lt-ltb i k l)
+
+pub lowest-missed : (k : ℕ) (p : ℕ → Bool) (i : ℕ) → i ≡ lowest k p → k ≤ i → any k p ≡ false
+lowest-missed k p i e l = any-lowest k p ∙ rw (← e) (le-ltb i k l)

@@ -66,8 +66,12 @@ module _ (K : Kind) (h : Header) (f : List ℕ) where
 
   -- ---- all of them
 
+  -- the records after the header
+  unfoldable pub recordRefusals : List Refusal
+  recordRefusals = markRefusals ++ (tableRefusals h (tableIn K h f) ++ keyRefusals)
+
   unfoldable pub openRefusals : List Refusal
-  openRefusals = headerRefusals ++ (markRefusals ++ (tableRefusals h (tableIn K h f) ++ keyRefusals))
+  openRefusals = headerRefusals ++ recordRefusals
 
 -- ---- the answer
 

@@ -22,7 +22,7 @@ use Rattle.directory.specs.Values.{tableRefusals}
 use Rattle.directory.specs.TableLaws.{values-most, spare-zero, ranks-right, total-right, table-none}
 use Rattle.directory.specs.LeadLaws.{leads-to, to-leads, lead-line, lead-assigned, lead-never-past}
 use Rattle.directory.specs.File.{headerLength, weightsAt, valuesAt, keysAt, keyAt, fileLength, weightIn, tableIn, keyLength, storedCode, leadIn}
-use Rattle.directory.specs.Opening.{headerRefusals, wrongMark, keyUnmarked, markRefusals, fillingSet, keyWrong, astray, keyRefusals, openRefusals}
+use Rattle.directory.specs.Opening.{headerRefusals, wrongMark, keyUnmarked, markRefusals, fillingSet, keyWrong, astray, keyRefusals, recordRefusals, openRefusals}
 use Rattle.directory.specs.Whole.{Sized, Framed, Marks, Table, Key, landingOf, LeadsTo, Whole}
 
 -- ---- sizes
@@ -141,7 +141,7 @@ module _ (K : Kind) (h : Header) (f : List ℕ) where
   -- ---- all of them
 
   pub whole : NoneApplies (openRefusals K h f) → Whole K h f
-  unfolding openRefusals keyRefusals
+  unfolding openRefusals recordRefusals keyRefusals
   whole c =
       let frame = framed (none-left (headerRefusals K h f) _ c) in
       let records = none-right (headerRefusals K h f) _ c in
@@ -157,7 +157,7 @@ module _ (K : Kind) (h : Header) (f : List ℕ) where
       }
 
   pub whole-back : Whole K h f → NoneApplies (openRefusals K h f)
-  unfolding openRefusals keyRefusals
+  unfolding openRefusals recordRefusals keyRefusals
   whole-back w =
       none-both (headerRefusals K h f) _ (framed-back (w .framed))
       (none-both (markRefusals K h f) _ (marks-back (w .marks))

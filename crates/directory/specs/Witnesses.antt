@@ -163,6 +163,7 @@ trials =
     ∷ opens one 4 2 4
     ∷ fails [] 9 0
     ∷ fails (take 6 one) 9 0
+    ∷ fails (replicate 6 0) 9 0
     ∷ fails (replicate 7 0) 10 0
     ∷ fails (set one 1 0x45) 10 0
     ∷ fails (set one 3 4) 11 0

@@ -11,11 +11,10 @@ use Rattle.directory.specs.CodesLaws.{length-wrong, length-right}
 use Rattle.directory.specs.Kind.{HD}
 use Rattle.directory.specs.Refusals.{Refusal, first, NoneApplies}
 use Rattle.directory.specs.RefusalLaws.{given-more, given-first, first-none, first-past, first-one}
-use Rattle.directory.specs.Values.{tableRefusals}
-use Rattle.directory.specs.File.{headerIn, tableIn, leadIn}
+use Rattle.directory.specs.File.{headerIn, leadIn}
 use Rattle.directory.specs.Whole.{Framed}
 use Rattle.directory.specs.WholeLaws.{framed-back}
-use Rattle.directory.specs.Opening.{headerRefusals, markRefusals, keyRefusals, openRefusals, openedUnless, opening as openingBy}
+use Rattle.directory.specs.Opening.{headerRefusals, recordRefusals, openRefusals, openedUnless, opening as openingBy}
 use Rattle.directory.specs.OpeningLaws.{header-opened, header-refused}
 use Rattle.directory.specs.LookingUp.{lookupRefusals, found as foundBy, lookup}
 use Rattle.directory.specs.Showing.{emptyPart, keyPart, shownPart}
@@ -69,6 +68,6 @@ module _ (f : List ℕ) where
     unfolding showPartOf shownPart
     show-part l = rw header-read (sym (first-none _ (λ number place. emptyPart) (headerRefusals HD (headed n r v) f) header-passed))
 
-    pub open-rest : openedUnless (headed n r v) (markRefusals HD (headed n r v) f ++ (tableRefusals (headed n r v) (tableIn HD (headed n r v) f) ++ keyRefusals HD (headed n r v) f)) ≡ openOf f
+    pub open-rest : openedUnless (headed n r v) (recordRefusals HD (headed n r v) f) ≡ openOf f
     unfolding openOf openingBy openedUnless openRefusals
     open-rest = rw header-read (sym (first-past _ opening.Refused (headerRefusals HD (headed n r v) f) _ header-passed))

@@ -5,19 +5,16 @@ use checks::marks::marks;
 use checks::table::table;
 use directory::Opening;
 ghost use mathlib.Core.Path.{_≡_};
-ghost use mathlib.Core.List.{_++_};
 ghost use Rattle.directory.specs.Sizes.{headed};
 ghost use Rattle.directory.specs.Kind.{HD};
-ghost use Rattle.directory.specs.Values.{tableRefusals};
-ghost use Rattle.directory.specs.File.{tableIn};
 ghost use Rattle.directory.specs.Whole.{Framed};
-ghost use Rattle.directory.specs.Opening.{markRefusals, keyRefusals, openedUnless};
+ghost use Rattle.directory.specs.Opening.{recordRefusals, openedUnless};
 ghost use Rattle.directory.specs.Calls.{openOf};
 
 // The records after the header: their marks, then the values and rank entries, then the KY records.
 fn open_records(file: &[u8], n: usize, r: usize, v: usize) -> Opening
     requires { ⌜ Framed HD (headed n r v) (now file) ⌝ }
-    ensures { λ o. ⌜ o ≡ openedUnless (headed n r v) (markRefusals HD (headed n r v) (now (file .entry)) ++ (tableRefusals (headed n r v) (tableIn HD (headed n r v) (now (file .entry))) ++ keyRefusals HD (headed n r v) (now (file .entry)))) ⌝ }
+    ensures { λ o. ⌜ o ≡ openedUnless (headed n r v) (recordRefusals HD (headed n r v) (now (file .entry))) ⌝ }
 {
     match marks(file, n, r, v) {
         Opening::Refused(number, place) => Opening::Refused(number, place),
