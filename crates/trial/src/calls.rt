@@ -11,6 +11,9 @@ use crate::held::clear;
 use crate::reading::Trial;
 use crate::reading::fresh;
 
+// The largest number of one byte.
+const MOST_NUMBER: u64 = 255;
+
 // More fields than any vector has.
 const NO_VECTOR: u8 = 4;
 
@@ -50,17 +53,18 @@ fn resize(length: usize, wanted: u64, file: &mut [u8]) -> usize {
     to
 }
 
-fn call_group(number: u64) {
-    if 255 < number {
+// What a refusal number means, if it fits a byte.
+fn refusal(wanted: u64) {
+    if MOST_NUMBER < wanted {
         write_bad();
         return;
     }
-    let refusal = number as u8;
-    write_refusal(reader::group_of(refusal), reader::meaning_of(refusal));
+    let number = wanted as u8;
+    write_refusal(reader::group_of(number), reader::meaning_of(number));
 }
 
-// A call on the file.
-fn call_on(trial: Trial, file: &[u8], code: &[u8]) {
+// The call that a vector asks for. P asks for none: its bytes are in the file already.
+fn call(trial: Trial, file: &[u8], code: &[u8]) {
     let letter = trial.letter;
     match letter {
         b'O' => write_opening(reader::open(file)),
@@ -72,7 +76,7 @@ fn call_on(trial: Trial, file: &[u8], code: &[u8]) {
             trial.second as usize,
             trial.last as usize,
         )),
-        b'G' => call_group(trial.last),
+        b'G' => refusal(trial.last),
         _ => (),
     }
 }
@@ -90,7 +94,7 @@ fn done(trial: Trial, file: &mut [u8], code: &[u8]) -> usize {
     if trial.letter == b'C' {
         return resize(length, trial.last, file);
     }
-    call_on(trial, beginning(file, length), code);
+    call(trial, beginning(file, length), code);
     length
 }
 

@@ -1,6 +1,9 @@
 // Digits of the vectors: their values, and numbers made of them.
 
-// No digit has this value.
+// Decimal digits have the values below this.
+pub const DECIMAL: u8 = 10;
+
+// Hex digits have the values below this, and what is no digit has this one.
 pub const NO_DIGIT: u8 = 16;
 
 // The value of a decimal or lowercase hex digit.
@@ -15,7 +18,7 @@ pub fn digit(byte: u8) -> u8 {
         return NO_DIGIT;
     }
     if byte <= b'f' {
-        return byte - b'a' + 10;
+        return byte - b'a' + DECIMAL;
     }
     NO_DIGIT
 }

@@ -1,6 +1,6 @@
 // The bytes that the vectors hold: the file under trial and the code that is asked for, each in a buffer with a length of its own.
 
-// Puts a byte into a buffer that has the place.
+// Puts a byte at a place, if the buffer has it.
 fn put(buffer: &mut [u8], at: usize, byte: u8) {
     if at < buffer.len() {
         buffer[at] = byte;

@@ -1,29 +1,36 @@
 // Reading vectors byte by byte: the letter, the numbers, and the bytes that go into the file or the code.
+use crate::digits::DECIMAL;
 use crate::digits::NO_DIGIT;
 use crate::digits::byte_of;
 use crate::digits::digit;
 use crate::digits::with_digit;
 
 // No vector has this letter: it is not read yet.
-pub const NO_LETTER: u8 = 0;
+const NO_LETTER: u8 = 0;
 
 // The most blanks of a vector: before each of three numbers.
 const MOST_BLANKS: u8 = 3;
 
-// Where the trial stands: the length of the file, and what is read of a vector. Its last number is the one that is being read; a blank moves the numbers on.
+// Where the trial stands: the file under trial, and what is read of a vector.
 pub struct Trial {
+    // The length of the file.
     pub length: usize,
     pub letter: u8,
+    // The blanks, each before a field.
     pub blanks: u8,
+    // The numbers: the last is being read, and a blank moves each to the one before it.
     pub first: u64,
     pub second: u64,
     pub last: u64,
+    // The first digit of a byte whose second is not read yet, or else NO_DIGIT.
     pub high: u8,
+    // The length of the code that is asked for.
     pub asked: usize,
+    // Whether something was read that no vector has.
     pub bad: bool,
 }
 
-// Before a vector is read.
+// Before the next vector.
 pub fn fresh(length: usize) -> Trial {
     Trial {
         length,
@@ -117,12 +124,12 @@ impl Trial {
     fn field(self, byte: u8, file: &mut [u8], code: &mut [u8]) -> Trial {
         let value = digit(byte);
         if holds_bytes(self.letter, self.blanks) {
-            if value < 16 {
+            if value < NO_DIGIT {
                 return self.hex_digit(value, file, code);
             }
             return self.spoilt();
         }
-        if value < 10 {
+        if value < DECIMAL {
             return self.decimal_digit(value);
         }
         self.spoilt()
