@@ -1,5 +1,5 @@
 -- The KY records: what was read of a record tells what the tests find, and the answer. Assumes nothing.
-use mathlib.Core.Path.{_≡_, refl, sym, ap, _∙_}
+use mathlib.Core.Path.{_≡_, ap, _∙_}
 use mathlib.Core.Logic.{_≢_}
 use mathlib.Core.Bool.{true, not}
 use mathlib.Core.List.{List}
@@ -8,7 +8,6 @@ use native.Mathlib.Omega.{arith}
 use lib.Dec.{eqb}
 use lib.ListN.{take, drop}
 use borrow.Author.Tests.{lt-ltb, le-ltb, ne-eqb}
-use Rattle.counting.specs.TestLaws.{or-second}
 use Rattle.counting.specs.Below.{any, lowest}
 use Rattle.counting.specs.SearchLaws.{any-false, lowest-found, lowest-missed}
 use Rattle.directory.specs.declared.Lead.{Lead}
@@ -21,11 +20,11 @@ use Rattle.directory.specs.Bytes.{byteAt, markLength}
 use Rattle.directory.specs.Leads.{leadsTo}
 use Rattle.directory.specs.File.{keyHead, leadIn, storedCode}
 use Rattle.directory.specs.Whole.{Key}
-use Rattle.directory.specs.WholeLaws.{key}
+use Rattle.directory.specs.WholeLaws.{key as key-right}
 use Rattle.directory.specs.Opening.{fillingSet, keyWrong, astray, keyRefusals, openedUnless}
 use Rattle.records.specs.Standing.{mostBytes, keyFrom}
 use Rattle.records.specs.StandingLaws.{key-length-from, code-from}
-use Rattle.checks.specs.RefusalSteps.{opened-last, refused-here, refused-later}
+use Rattle.checks.specs.RefusalSteps.{opened-at-end, row-given, row-passed}
 
 module _ (n r v : ℕ) (f : List ℕ) where
   abbrev h : Header
@@ -52,7 +51,7 @@ module _ (n r v : ℕ) (f : List ℕ) where
     unfolding astray storedCode
     stray-from a i = let s : key + keyHead + k - (key + keyHead) ≡ k = omega arith in rw (i, s, key-length-from n r v f l key k e d, code-from n r v f l key k e d)
 
-  -- ---- the answer
+  -- ---- the answer: l is the lowest wrong record, k the lowest stray code
 
   abbrev answer : Opening
   answer = openedUnless h (keyRefusals HD h f)
@@ -60,16 +59,16 @@ module _ (n r v : ℕ) (f : List ℕ) where
   module _ (l : ℕ) (low : l ≡ lowest n (keyWrong HD h f)) where
     pub key-refused : l < n → Refused 14 l ≡ answer
     unfolding keyRefusals
-    key-refused m = ap (Refused 14) low ∙ refused-here h _ _ (lowest-found _ _ _ low m)
+    key-refused m = ap (Refused 14) low ∙ row-given h _ _ (lowest-found _ _ _ low m)
 
     pub keys-right : n ≤ l → (i : ℕ) → i < n → Key HD h f i
-    keys-right right i m = key HD h f i (any-false n (keyWrong HD h f) (lowest-missed _ _ _ low right) i m)
+    keys-right right i m = key-right HD h f i (any-false n (keyWrong HD h f) (lowest-missed _ _ _ low right) i m)
 
     module _ (right : n ≤ l) (k : ℕ) (lowk : k ≡ lowest n (astray HD h f)) where
       pub stray-refused : k < n → Refused 15 k ≡ answer
       unfolding keyRefusals
-      stray-refused m = ap (Refused 15) lowk ∙ refused-later h _ _ (lowest-missed _ _ _ low right) (refused-here h _ _ (lowest-found _ _ _ lowk m))
+      stray-refused m = ap (Refused 15) lowk ∙ row-passed h _ _ (lowest-missed _ _ _ low right) (row-given h _ _ (lowest-found _ _ _ lowk m))
 
       pub keys-opened : n ≤ k → Opened n r v ≡ answer
       unfolding keyRefusals
-      keys-opened m = refused-later h _ _ (lowest-missed _ _ _ low right) (refused-later h _ _ (lowest-missed _ _ _ lowk m) (opened-last h))
+      keys-opened m = row-passed h _ _ (lowest-missed _ _ _ low right) (row-passed h _ _ (lowest-missed _ _ _ lowk m) (opened-at-end h))

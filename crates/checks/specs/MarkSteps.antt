@@ -15,7 +15,7 @@ use Rattle.directory.specs.File.{headerLength, weightsAt, valuesAt, keyAt}
 use Rattle.directory.specs.Opening.{wrongMark, keyUnmarked, markRefusals, openedUnless}
 use Rattle.records.specs.Standing.{valuesFrom, ranksFrom, keyFrom}
 use Rattle.records.specs.StandingLaws.{key-from}
-use Rattle.checks.specs.RefusalSteps.{opened-last, refused-here, refused-later}
+use Rattle.checks.specs.RefusalSteps.{opened-at-end, row-given, row-passed}
 
 module _ (n r v : ℕ) (f : List ℕ) where
   abbrev h : Header
@@ -33,25 +33,25 @@ module _ (n r v : ℕ) (f : List ℕ) where
 
   pub weights-unmarked : not (marked f headerLength WT) ≡ true → Refused 10 headerLength ≡ answer
   unfolding markRefusals wrongMark weightsAt
-  weights-unmarked t = refused-here h _ _ t
+  weights-unmarked t = row-given h _ _ t
 
   module _ (weights : not (marked f headerLength WT) ≡ false) (gv : ℕ) (gv-at : gv ≡ valuesFrom r) where
     pub values-unmarked : not (marked f gv GV) ≡ true → Refused 10 gv ≡ answer
     unfolding markRefusals wrongMark weightsAt valuesAt
-    values-unmarked t = ap (Refused 10) gv-at ∙ refused-later h _ _ weights (refused-here h _ _ (rw gv-at at t))
+    values-unmarked t = ap (Refused 10) gv-at ∙ row-passed h _ _ weights (row-given h _ _ (rw gv-at at t))
 
     module _ (values : not (marked f gv GV) ≡ false) (rk : ℕ) (rk-at : rk ≡ ranksFrom r v) where
       pub ranks-unmarked : not (marked f rk RK) ≡ true → Refused 10 rk ≡ answer
       unfolding markRefusals wrongMark weightsAt valuesAt ranksAt
-      ranks-unmarked t = ap (Refused 10) rk-at ∙ refused-later h _ _ weights (refused-later h _ _ (rw gv-at at values) (refused-here h _ _ (rw rk-at at t)))
+      ranks-unmarked t = ap (Refused 10) rk-at ∙ row-passed h _ _ weights (row-passed h _ _ (rw gv-at at values) (row-given h _ _ (rw rk-at at t)))
 
       module _ (ranks : not (marked f rk RK) ≡ false) (l : ℕ) (low : l ≡ lowest n (keyUnmarked HD h f)) where
         pub keys-unmarked : l < n → (ky : ℕ) → ky ≡ keyFrom r v l → Refused 10 ky ≡ answer
         unfolding markRefusals wrongMark weightsAt valuesAt ranksAt
         keys-unmarked m ky ky-at =
             ap (Refused 10) (ky-at ∙ key-from n r v l ∙ ap (keyAt HD h) low)
-            ∙ refused-later h _ _ weights (refused-later h _ _ (rw gv-at at values) (refused-later h _ _ (rw rk-at at ranks) (refused-here h _ _ (lowest-found _ _ _ low m))))
+            ∙ row-passed h _ _ weights (row-passed h _ _ (rw gv-at at values) (row-passed h _ _ (rw rk-at at ranks) (row-given h _ _ (lowest-found _ _ _ low m))))
 
         pub all-marked : n ≤ l → Opened n r v ≡ answer
         unfolding markRefusals wrongMark weightsAt valuesAt ranksAt
-        all-marked m = refused-later h _ _ weights (refused-later h _ _ (rw gv-at at values) (refused-later h _ _ (rw rk-at at ranks) (refused-later h _ _ (lowest-missed _ _ _ low m) (opened-last h))))
+        all-marked m = row-passed h _ _ weights (row-passed h _ _ (rw gv-at at values) (row-passed h _ _ (rw rk-at at ranks) (row-passed h _ _ (lowest-missed _ _ _ low m) (opened-at-end h))))

@@ -10,15 +10,15 @@ use Rattle.directory.specs.RefusalLaws.{first-none, first-one, first-past}
 use Rattle.directory.specs.Opening.{openedUnless}
 
 module _ (h : Header) where
-  pub opened-last : Opened (h .n) (h .r) (h .v) ≡ openedUnless h []
+  pub opened-at-end : Opened (h .n) (h .r) (h .v) ≡ openedUnless h []
   unfolding openedUnless
-  opened-last = sym (first-none _ Refused [] tt)
+  opened-at-end = sym (first-none _ Refused [] tt)
 
   module _ (row : Refusal) (table : List Refusal) where
-    pub refused-here : row .applies ≡ true → Refused (row .number) (row .place) ≡ openedUnless h (row ∷ table)
+    pub row-given : row .applies ≡ true → Refused (row .number) (row .place) ≡ openedUnless h (row ∷ table)
     unfolding openedUnless
-    refused-here t = sym (first-one _ Refused row table t)
+    row-given t = sym (first-one _ Refused row table t)
 
-    pub refused-later : {o : Opening} → row .applies ≡ false → o ≡ openedUnless h table → o ≡ openedUnless h (row ∷ table)
+    pub row-passed : {o : Opening} → row .applies ≡ false → o ≡ openedUnless h table → o ≡ openedUnless h (row ∷ table)
     unfolding openedUnless
-    refused-later t e = e ∙ sym (first-past _ Refused (row ∷ []) table (t, tt))
+    row-passed t e = e ∙ sym (first-past _ Refused (row ∷ []) table (t, tt))

@@ -1,26 +1,26 @@
 -- The values, the spare bits, the rank entries and the total: what was read tells what the tests find, and the answer. Assumes nothing.
-use mathlib.Core.Path.{_≡_, refl, sym, ap, _∙_}
+use mathlib.Core.Path.{_≡_, sym, ap, _∙_}
 use mathlib.Core.Logic.{_≢_}
 use mathlib.Core.Bool.{true, false, not, _||_}
 use mathlib.Core.List.{List}
-use Prim.Native.Nat.{ℕ, _+_, _-_, _*_, _/_, _≤_, _<_}
+use Prim.Native.Nat.{ℕ, _+_, _-_, _*_, _≤_, _<_}
 use native.Mathlib.Nat.{zero-add}
 use native.Mathlib.Omega.{arith}
 use borrow.Author.Tests.{lt-ltb, le-ltb, eq-eqb, ne-eqb}
 use Rattle.counting.specs.TestLaws.{or-second, or-none}
-use Rattle.counting.specs.Below.{bit, sum, count, any, lowest}
+use Rattle.counting.specs.Below.{bit, count, any, lowest}
 use Rattle.counting.specs.BelowLaws.{sum-none, sum-split}
 use Rattle.counting.specs.SearchLaws.{any-has, any-none, lowest-is, lowest-only, lowest-found, lowest-missed}
 use Rattle.graph.specs.Assignment.{assigned, assignedBelow, blockSize, blocks, rankEntry}
 use Rattle.directory.specs.declared.Opening.{Opening}
 use Rattle.directory.specs.declared.Opening.the-variants.{Opened, Refused}
-use Rattle.directory.specs.Sizes.{Header, headed}
+use Rattle.directory.specs.Sizes.{Header, headed, valueBytes}
 use Rattle.directory.specs.Kind.{HD}
 use Rattle.directory.specs.Values.{valueIn, rankIn, valueOver, spareSet, rankWrong, totalWrong, tableRefusals}
 use Rattle.directory.specs.File.{weightsAt, valuesAt, tableIn}
 use Rattle.directory.specs.Opening.{openedUnless}
 use Rattle.records.specs.Standing.{bytesFrom, valuesFrom}
-use Rattle.checks.specs.RefusalSteps.{opened-last, refused-here, refused-later}
+use Rattle.checks.specs.RefusalSteps.{opened-at-end, row-given, row-passed}
 
 -- ---- rank entries, of any values
 
@@ -55,11 +55,11 @@ module _ (n r v : ℕ) (f : List ℕ) where
   unfolding valueOver tableIn valuesAt weightsAt
   first-over x m before here = lowest-only (record { noneBefore = λ i l. le-ltb r (value i) (before i l); most = m; passes = λ l. lt-ltb r (value x) (here l) })
 
-  pub spare-found : (x : ℕ) → r * v ≤ x → x < 4 * ((r * v + 3) / 4) → value x ≢ 0 → true ≡ spareSet h T
+  pub spare-found : (x : ℕ) → r * v ≤ x → x < 4 * valueBytes h → value x ≢ 0 → true ≡ spareSet h T
   unfolding spareSet tableIn valuesAt weightsAt
   spare-found x l m d = let e : r * v + (x - r * v) ≡ x = omega arith in sym (any-has _ _ (x - r * v) (omega arith) (rw e (ap not (ne-eqb (value x) 0 d))))
 
-  pub spare-none : ((i : ℕ) → i < 4 * ((r * v + 3) / 4) → r * v ≤ i → value i ≡ 0) → false ≡ spareSet h T
+  pub spare-none : ((i : ℕ) → i < 4 * valueBytes h → r * v ≤ i → value i ≡ 0) → false ≡ spareSet h T
   unfolding spareSet tableIn valuesAt weightsAt
   spare-none zero = sym (any-none _ _ (λ i l. ap not (eq-eqb _ 0 (zero (r * v + i) (omega arith) (omega arith)))))
 
@@ -67,7 +67,7 @@ module _ (n r v : ℕ) (f : List ℕ) where
   unfolding rankWrong tableIn valuesAt weightsAt
   first-wrong b m before here = lowest-only (record { noneBefore = λ i l. ap not (eq-eqb _ _ (before i l)); most = m; passes = λ l. ap not (ne-eqb _ _ (here l)) })
 
-  -- ---- the answer
+  -- ---- the answer: x is the lowest value over r, b the lowest wrong entry, c the number of assigned vertices
 
   abbrev answer : Opening
   answer = openedUnless h (tableRefusals h T)
@@ -75,12 +75,12 @@ module _ (n r v : ℕ) (f : List ℕ) where
   module _ (x : ℕ) (low : x ≡ lowest (r * v) (valueOver h T)) where
     pub value-refused : x < r * v → Refused 12 x ≡ answer
     unfolding tableRefusals
-    value-refused l = ap (Refused 12) low ∙ refused-here h _ _ (rw (lowest-found _ _ _ low l))
+    value-refused l = ap (Refused 12) low ∙ row-given h _ _ (rw (lowest-found _ _ _ low l))
 
     module _ (none : r * v ≤ x) where
       pub spare-refused : true ≡ spareSet h T → Refused 12 (r * v) ≡ answer
       unfolding tableRefusals
-      spare-refused t = ap (Refused 12) (omega (arith, lowest-is (r * v) (valueOver h T) .most)) ∙ refused-here h _ _ (or-second (any (r * v) (valueOver h T)) _ (sym t))
+      spare-refused t = ap (Refused 12) (omega (arith, lowest-is (r * v) (valueOver h T) .most)) ∙ row-given h _ _ (or-second (any (r * v) (valueOver h T)) _ (sym t))
 
       module _ (spare : false ≡ spareSet h T) (b : ℕ) (lowb : b ≡ lowest (blocks (r * v)) (rankWrong h T)) where
         values-right : any (r * v) (valueOver h T) || spareSet h T ≡ false
@@ -88,13 +88,13 @@ module _ (n r v : ℕ) (f : List ℕ) where
 
         pub rank-refused : b < blocks (r * v) → Refused 13 b ≡ answer
         unfolding tableRefusals
-        rank-refused l = ap (Refused 13) lowb ∙ refused-later h _ _ values-right (refused-here h _ _ (rw (lowest-found _ _ _ lowb l)))
+        rank-refused l = ap (Refused 13) lowb ∙ row-passed h _ _ values-right (row-given h _ _ (rw (lowest-found _ _ _ lowb l)))
 
         module _ (right : blocks (r * v) ≤ b) (c : ℕ) (e : c ≡ assignedBelow r value (r * v)) where
           pub total-refused : c ≢ n → Refused 13 (blocks (r * v)) ≡ answer
           unfolding tableRefusals totalWrong tableIn valuesAt weightsAt
-          total-refused d = ap (Refused 13) (omega (arith, lowest-is (blocks (r * v)) (rankWrong h T) .most)) ∙ refused-later h _ _ values-right (refused-here h _ _ (or-second (any (blocks (r * v)) (rankWrong h T)) _ (rw (← e) (ap not (ne-eqb c n d)))))
+          total-refused d = ap (Refused 13) (omega (arith, lowest-is (blocks (r * v)) (rankWrong h T) .most)) ∙ row-passed h _ _ values-right (row-given h _ _ (or-second (any (blocks (r * v)) (rankWrong h T)) _ (rw (← e) (ap not (ne-eqb c n d)))))
 
           pub table-opened : c ≡ n → Opened n r v ≡ answer
           unfolding tableRefusals totalWrong tableIn valuesAt weightsAt
-          table-opened d = refused-later h _ _ values-right (refused-later h _ _ (or-none (lowest-missed _ _ _ lowb right) (rw (← e) (ap not (eq-eqb c n d)))) (opened-last h))
+          table-opened d = row-passed h _ _ values-right (row-passed h _ _ (or-none (lowest-missed _ _ _ lowb right) (rw (← e) (ap not (eq-eqb c n d)))) (opened-at-end h))

@@ -10,3 +10,5 @@ pub mod OccurrenceLaws
 pub mod Widths
 pub mod Holds
 pub mod HoldsLaws
+pub mod Wrote
+pub mod WroteLaws

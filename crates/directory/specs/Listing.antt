@@ -12,7 +12,7 @@ use Rattle.directory.specs.Showing.{shown}
 
 -- ---- numbers as text, in ASCII
 
-abbrev blank : ℕ
+abbrev pub blank : ℕ
 blank = 0x20
 
 abbrev newline : ℕ

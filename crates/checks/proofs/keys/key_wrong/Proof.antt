@@ -1,6 +1,5 @@
 -- `checks::keys::key_wrong` meets its contract. Assumes nothing.
-use mathlib.Core.Path.{_≡_, _∙_}
-use native.Mathlib.Omega.{arith}
+use mathlib.Core.Path.{_∙_}
 use borrow.Author.Needs.{needs}
 use Rattle.checks.specs.KeySteps.{key-empty, key-long, key-filling}
 use Rattle.checks.proofs.keys.key_wrong.Statement.{statement}

@@ -68,7 +68,7 @@ returns-4 c =
     let s = b .before .before in
     let x = s .before .before in
     let a = x .before .before .args in
-    total-refused (a .n) (a .r) (a .v) (a .file .now) (x .value-over .result) (x .value-over .ensures (a .n)) (s .before .if1 .left) (sym (b .before .if2 .left) ∙ s .spare-set .ensures (a .n)) (b .wrong-rank .result) (b .wrong-rank .ensures (a .n)) (k .before .before .if3 .left) (k .count-assigned .result) (total k) (c .if4 .taken)
+    total-refused (a .n) (a .r) (a .v) (a .file .now) (x .value-over .result) (x .value-over .ensures (a .n)) (s .before .if1 .left) (sym (b .before .if2 .left) ∙ s .spare-set .ensures (a .n)) (b .wrong-rank .result) (b .wrong-rank .ensures (a .n)) (k .before .before .if3 .left) (k .count-assigned .result) (total k) (omega arith)
 
 abbrev start : tie.Else4 → tie.Start
 start c = c .before .before .before .before .before .before .before .before .before .before
@@ -89,7 +89,7 @@ returns-5 c =
     let s = b .before .before in
     let x = s .before .before in
     let a = x .before .before .args in
-    table-opened (a .n) (a .r) (a .v) (a .file .now) (x .value-over .result) (x .value-over .ensures (a .n)) (s .before .if1 .left) (sym (b .before .if2 .left) ∙ s .spare-set .ensures (a .n)) (b .wrong-rank .result) (b .wrong-rank .ensures (a .n)) (k .before .before .if3 .left) (k .count-assigned .result) (total k) (c .if4 .left)
+    table-opened (a .n) (a .r) (a .v) (a .file .now) (x .value-over .result) (x .value-over .ensures (a .n)) (s .before .if1 .left) (sym (b .before .if2 .left) ∙ s .spare-set .ensures (a .n)) (b .wrong-rank .result) (b .wrong-rank .ensures (a .n)) (k .before .before .if3 .left) (k .count-assigned .result) (total k) (omega arith)
 
 pub table-spec : {M : Type 1} → statement M
 table-spec =

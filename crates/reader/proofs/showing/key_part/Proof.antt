@@ -57,6 +57,9 @@ part-result-end-3 c = search needs
 returns-3 : tie.Need-returns-3
 returns-3 c = let b = c .before .before .before in let a = start b .args in rw (← part-wrong (a .n) (a .r) (a .v) (a .file .now) (a .line) (omega arith) (b .before .key-at .result) (b .byte .result) (b .before .key-at .ensures) (b .byte .ensures .0) (inr (c .before .if3 .taken))) record { bytes = refl; block = refl; from = refl }
 
+returns-4 : tie.Need-returns-4
+returns-4 c = let b = c .before .before .before in let a = start b .args in rw (← part-here (a .n) (a .r) (a .v) (a .file .now) (a .line) (omega arith) (b .before .key-at .result) (b .byte .result) (b .before .key-at .ensures) (b .byte .ensures .0) (omega arith) (omega arith)) record { bytes = simp add-sub-cancel-left; block = refl; from = refl }
+
 add-from : tie.Need-add-from
 add-from c = search needs
 
@@ -71,9 +74,6 @@ part-result-start-4 c = search needs
 
 part-result-end-4 : tie.Need-part-result-end-4
 part-result-end-4 c = let b = c .before .before in let a = start b .args in let k = framed-keyed (a .n) (a .r) (a .v) (a .file .now) (start b .pre) (a .line) (omega arith) in omega (arith, k .long, b .before .key-at .ensures)
-
-returns-4 : tie.Need-returns-4
-returns-4 c = let b = c .before .before .before in let a = start b .args in rw (← part-here (a .n) (a .r) (a .v) (a .file .now) (a .line) (omega arith) (b .before .key-at .result) (b .byte .result) (b .before .key-at .ensures) (b .byte .ensures .0) (omega arith) (omega arith)) record { bytes = simp add-sub-cancel-left; block = refl; from = refl }
 
 pub key-part-spec : {M : Type 1} → statement M
 key-part-spec =

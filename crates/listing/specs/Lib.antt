@@ -1,0 +1,5 @@
+pub mod TextLaws
+pub mod TextSteps
+pub mod LineLaws
+pub mod Text
+pub mod ListingLaws
