@@ -1,8 +1,9 @@
 //! The calls of the second program on an input, each put down as a trial of the definitions.
 
-use crate::inputs::{code, Input, Random, BLANK};
+use crate::inputs::{code, Input, BLANK};
 use crate::page::bytes;
 use second::header::checked_header;
+use second::random::Random;
 use second::{
     build as build_file, length, list as list_file, lookup, open, show, CodeList, Found, Header,
     Part, Refusal,

@@ -3,26 +3,8 @@
 
 use second::header::checked_header;
 use second::length;
+use second::random::Random;
 use second::text::run_and_ends;
-
-/// A small generator of random numbers: multiply, add, and give the upper half.
-pub struct Random(u64);
-
-impl Random {
-    pub fn new(seed: u64) -> Random {
-        Random(seed)
-    }
-
-    pub fn below(&mut self, limit: u64) -> u64 {
-        self.0 = self.0.wrapping_mul(6_364_136_223_846_793_005);
-        self.0 = self.0.wrapping_add(1_442_695_040_888_963_407);
-        (self.0 >> 32) % limit
-    }
-
-    pub fn one_of<T: Copy>(&mut self, values: &[T]) -> T {
-        values[self.below(values.len() as u64) as usize]
-    }
-}
 
 /// Everything a build is given; the buffer by its length.
 pub struct Input {

@@ -6,8 +6,8 @@ mod inputs;
 mod page;
 
 use calls::{Tally, Trials};
-use inputs::Random;
 use page::Page;
+use second::random::Random;
 use std::process::ExitCode;
 
 const USAGE: &str = "usage: crosscheck SEED LISTS";

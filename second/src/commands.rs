@@ -1,9 +1,12 @@
-//! The commands build, open, lookup, show and list: what each reads, writes and says.
+//! The commands build, open, lookup, show, list, vectors and trial: what each reads, writes and
+//! says.
 
 use second::answers::{CODE_LIST, CYCLIC, REPEATED, WEIGHTS};
 use second::header::Header;
 use second::listing::refused;
 use second::text;
+use second::trial::answers;
+use second::vectors::vectors;
 use second::{build, length, list, lookup, open, show, CodeList, Found, Refusal};
 use std::ffi::{OsStr, OsString};
 use std::fs;
@@ -15,7 +18,13 @@ const USAGE: &str = "usage:
   second open FILE                      open and check a directory file
   second lookup FILE CODE               look a code up (0x before hex digits)
   second show FILE LINE                 show the code of a line in hex
-  second list [FILE]                    list all lines (standard input without FILE)";
+  second list [FILE]                    list all lines (standard input without FILE)
+  second vectors SEED LISTS             write vectors, with this many random lists
+  second trial [FILE]                   answer vectors (standard input without FILE)";
+
+const COMMANDS: [&str; 7] = [
+    "build", "open", "lookup", "show", "list", "vectors", "trial",
+];
 
 /// Exit status of a refusal or of a file that cannot be read or written.
 const FAILED: u8 = 1;
@@ -76,9 +85,12 @@ pub fn run(arguments: &[OsString]) -> Outcome {
         (Some("show"), [file, line]) => show_command(file, line),
         (Some("list"), []) => list_command(None),
         (Some("list"), [file]) => list_command(Some(file)),
-        (Some(known @ ("build" | "open" | "lookup" | "show" | "list")), _) => Err(
-            Outcome::wrong_call(&format!("{known} takes another number of arguments")),
-        ),
+        (Some("vectors"), [seed, lists]) => vectors_command(seed, lists),
+        (Some("trial"), []) => trial_command(None),
+        (Some("trial"), [file]) => trial_command(Some(file)),
+        (Some(known), _) if COMMANDS.contains(&known) => Err(Outcome::wrong_call(&format!(
+            "{known} takes another number of arguments"
+        ))),
         _ => Err(Outcome::wrong_call(&format!(
             "unknown command `{}`",
             command.to_string_lossy()
@@ -213,20 +225,34 @@ fn show_command(path: &OsStr, line: &OsStr) -> Result<Outcome, Outcome> {
     Ok(Outcome::success(format!("{}\n", text::hex(code))))
 }
 
-/// The lister. All of the input is read, however long it is.
+/// The lister.
 fn list_command(path: Option<&OsString>) -> Result<Outcome, Outcome> {
-    let file = match path {
-        Some(path) => read(path)?,
-        None => {
-            let mut input = Vec::new();
-            std::io::stdin().read_to_end(&mut input).map_err(|fault| {
-                Outcome::failed(format!("standard input cannot be read: {fault}"))
-            })?;
-            input
-        }
-    };
+    let file = read_or_input(path)?;
     Ok(match open(&file) {
         Ok(_) => Outcome::success(list(&file)),
         Err(refusal) => Outcome::refused(list(&file), &refusal),
     })
+}
+
+/// The bytes of a file, or without one all of standard input, however long it is.
+fn read_or_input(path: Option<&OsString>) -> Result<Vec<u8>, Outcome> {
+    let Some(path) = path else {
+        let mut input = Vec::new();
+        std::io::stdin()
+            .read_to_end(&mut input)
+            .map_err(|fault| Outcome::failed(format!("standard input cannot be read: {fault}")))?;
+        return Ok(input);
+    };
+    read(path)
+}
+
+fn vectors_command(seed: &OsStr, lists: &OsStr) -> Result<Outcome, Outcome> {
+    let seed = decimal(seed, "SEED")?;
+    let lists = decimal(lists, "LISTS")?;
+    Ok(Outcome::success(vectors(seed, lists)))
+}
+
+fn trial_command(path: Option<&OsString>) -> Result<Outcome, Outcome> {
+    let answers = answers(&read_or_input(path)?).map_err(Outcome::failed)?;
+    Ok(Outcome::success(answers))
 }

@@ -10,9 +10,13 @@ pub mod header;
 pub mod listing;
 pub mod looking;
 pub mod opening;
+pub mod random;
+pub mod refusals;
 pub mod sizes;
 pub mod table;
 pub mod text;
+pub mod trial;
+pub mod vectors;
 pub mod vertices;
 
 pub use answers::{Found, Part, Refusal};

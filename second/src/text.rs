@@ -30,7 +30,7 @@ pub fn code(line: &[u8]) -> Result<Vec<u8>, String> {
 }
 
 /// The bytes that pairs of hex digits stand for.
-fn bytes_of_hex(digits: &[u8]) -> Result<Vec<u8>, String> {
+pub fn bytes_of_hex(digits: &[u8]) -> Result<Vec<u8>, String> {
     let mut halves = Vec::new();
     for &digit in digits {
         match char::from(digit).to_digit(16) {

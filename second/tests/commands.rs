@@ -275,16 +275,34 @@ fn numbers_at_their_edges() {
     assert_eq!(folder.names(), ["case1", "codes", "weights"]);
 }
 
+/// Vectors are answered from a file and from standard input; a line that is none is named.
+#[test]
+fn vectors_and_their_trial() {
+    let folder = Folder::new("trial");
+    let vectors = b"C 6\nO\nN 4 2 4\n";
+    folder.write("vectors", vectors);
+    let answers = "refused 9 0\nlength 285\n";
+    assert_done(&folder.second(&["trial", "vectors"]), answers);
+    assert_done(&folder.second_with_input(&["trial"], vectors), answers);
+    let wrong = folder.second_with_input(&["trial"], b"O\nX 1\n");
+    assert_failed(&wrong, 1, "", &["line 2 is no vector: `X 1`"]);
+    let made = folder.second(&["vectors", "1", "0"]);
+    assert!(made.stdout.starts_with(b"# vectors of seed 1"));
+    assert_eq!(made.status.code(), Some(0), "{}", words(&made));
+}
+
 #[test]
 fn wrong_calls() {
     let folder = Folder::with_directory("wrong");
-    let calls: [(&[&str], &str); 10] = [
+    let calls: [(&[&str], &str); 12] = [
         (&[], "a command is missing"),
         (&["frobnicate"], "unknown command `frobnicate`"),
         (&["build"], "build takes another number of arguments"),
         (&["open"], "open takes another number of arguments"),
         (&["open", "case1", "case1"], "open takes"),
         (&["list", "case1", "case1"], "list takes"),
+        (&["vectors", "1"], "vectors takes"),
+        (&["vectors", "one", "2"], "SEED is `one`"),
         (&["show", "case1", "first"], "LINE is `first`"),
         (&["show", "case1", "+1"], "LINE is `+1`"),
         (

@@ -2,6 +2,7 @@
 //! is tried as a group in which each vertex that a member names is named by at least two members.
 //! The expected values come from that search, which shares nothing with the peeling.
 
+use second::random::Random;
 use second::text::run_and_ends;
 use second::{build, length, lookup, open, show, CodeList, Found, Header, Refusal};
 use std::collections::BTreeSet;
@@ -16,19 +17,6 @@ const FEWEST_OF_A_KIND: usize = 200;
 const MOST_CODES: u64 = 9;
 /// The bytes that the random codes are made of.
 const LETTERS: [u8; 4] = [0, 65, 66, 255];
-
-/// A small generator of random numbers: multiply, add, and give the upper half.
-struct Random(u64);
-
-impl Random {
-    fn below(&mut self, limit: u64) -> u64 {
-        self.0 = self
-            .0
-            .wrapping_mul(6_364_136_223_846_793_005)
-            .wrapping_add(1_442_695_040_888_963_407);
-        (self.0 >> 32) % limit
-    }
-}
 
 /// A random list with everything else that a build takes.
 #[derive(Debug)]
@@ -167,7 +155,7 @@ fn check(trial: &Trial, words: &str) -> usize {
 
 #[test]
 fn cyclic_exactly_if_there_is_a_group() {
-    let mut random = Random(SEED);
+    let mut random = Random::new(SEED);
     let mut built = [0; 2];
     let mut cyclic = [0; 2];
     let mut partly_peeled = 0;

@@ -1,0 +1,56 @@
+-- `go_through` is safe and ends: what is left of the piece falls. The file's buffer and the code's keep their lengths. Assumes nothing.
+use borrow.Author.Needs.{needs}
+use Prim.Native.Nat.{_-_}
+use mathlib.Core.Path.{_≡_}
+use lib.ListN.{length}
+use Rattle.trial.proofs.go_through.Statement.{statement}
+use Rattle.trial.proofs.go_through.Tie as tie
+
+abbrev Inv-loop : tie.InvT-loop
+Inv-loop piece file₀ code₀ trial₀ i₀ file code trial i = (length file ≡ length file₀) × (length code ≡ length code₀)
+
+abbrev μ-loop : tie.MeasureT-loop
+μ-loop piece file₀ code₀ trial₀ i₀ file code trial i = length piece - i
+
+loop-holds : tie.Need-loop-holds Inv-loop μ-loop
+loop-holds c = search needs
+
+shared-slice-read-step : tie.Need-shared-slice-read-step Inv-loop μ-loop
+shared-slice-read-step c = search needs
+
+step-requires : tie.Need-step-requires Inv-loop μ-loop
+step-requires c κs = search needs
+
+add-i : tie.Need-add-i Inv-loop μ-loop
+add-i c = search needs
+
+loop-less : tie.Need-loop-less Inv-loop μ-loop
+loop-less c = search needs
+
+loop-again : tie.Need-loop-again Inv-loop μ-loop
+loop-again c = search needs
+
+same-length : tie.Need-same-length Inv-loop μ-loop
+same-length c = search needs
+
+same-length-2 : tie.Need-same-length-2 Inv-loop μ-loop
+same-length-2 c = search needs
+
+returns : tie.Need-returns Inv-loop μ-loop
+returns c = search needs
+
+pub go-through-spec : {M : Type 1} → statement M
+go-through-spec =
+    tie.close
+    (tie.spec
+    Inv-loop
+    μ-loop
+    loop-holds
+    shared-slice-read-step
+    step-requires
+    add-i
+    loop-less
+    loop-again
+    same-length
+    same-length-2
+    returns)

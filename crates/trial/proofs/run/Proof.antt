@@ -1,0 +1,87 @@
+-- `run` is safe and ends: the number of pieces that may still be read falls. The buffers keep their lengths. Assumes nothing.
+use borrow.Author.Needs.{needs}
+use mathlib.Core.Path.{_≡_}
+use lib.ListN.{length}
+use Rattle.trial.proofs.run.Statement.{statement}
+use Rattle.trial.proofs.run.Tie as tie
+
+abbrev Inv-loop : tie.InvT-loop
+Inv-loop piece₀ file₀ code₀ trial₀ pieces₀ piece file code trial pieces = (length piece ≡ length piece₀) × (length file ≡ length file₀) × (length code ≡ length code₀)
+
+abbrev μ-loop : tie.MeasureT-loop
+μ-loop piece₀ file₀ code₀ trial₀ pieces₀ piece file code trial pieces = pieces
+
+fresh-requires : tie.Need-fresh-requires Inv-loop μ-loop
+fresh-requires c κs = search needs
+
+loop-holds : tie.Need-loop-holds Inv-loop μ-loop
+loop-holds c = search needs
+
+read-full-requires : tie.Need-read-full-requires Inv-loop μ-loop
+read-full-requires c κs = search needs
+
+same-length : tie.Need-same-length Inv-loop μ-loop
+same-length c = search needs
+
+same-length-2 : tie.Need-same-length-2 Inv-loop μ-loop
+same-length-2 c = search needs
+
+same-length-3 : tie.Need-same-length-3 Inv-loop μ-loop
+same-length-3 c = search needs
+
+returns : tie.Need-returns Inv-loop μ-loop
+returns c = search needs
+
+slice-reshare-prefix-go-through : tie.Need-slice-reshare-prefix-go-through Inv-loop μ-loop
+slice-reshare-prefix-go-through c = search needs
+
+slice-aggregate-go-through : tie.Need-slice-aggregate-go-through Inv-loop μ-loop
+slice-aggregate-go-through c = search needs
+
+go-through-requires : tie.Need-go-through-requires Inv-loop μ-loop
+go-through-requires c κs = search needs
+
+sub-pieces : tie.Need-sub-pieces Inv-loop μ-loop
+sub-pieces c = search needs
+
+loop-less : tie.Need-loop-less Inv-loop μ-loop
+loop-less c = search needs
+
+loop-again : tie.Need-loop-again Inv-loop μ-loop
+loop-again c = search needs
+
+same-length-4 : tie.Need-same-length-4 Inv-loop μ-loop
+same-length-4 c = search needs
+
+same-length-5 : tie.Need-same-length-5 Inv-loop μ-loop
+same-length-5 c = search needs
+
+same-length-6 : tie.Need-same-length-6 Inv-loop μ-loop
+same-length-6 c = search needs
+
+returns-2 : tie.Need-returns-2 Inv-loop μ-loop
+returns-2 c = search needs
+
+pub run-spec : {M : Type 1} → statement M
+run-spec =
+    tie.close
+    (tie.spec
+    Inv-loop
+    μ-loop
+    fresh-requires
+    loop-holds
+    read-full-requires
+    same-length
+    same-length-2
+    same-length-3
+    returns
+    slice-reshare-prefix-go-through
+    slice-aggregate-go-through
+    go-through-requires
+    sub-pieces
+    loop-less
+    loop-again
+    same-length-4
+    same-length-5
+    same-length-6
+    returns-2)

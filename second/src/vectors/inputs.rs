@@ -1,0 +1,87 @@
+//! What the vectors are made of: files that are built, files written by hand, and where a code
+//! leads in them.
+
+use crate::file;
+use crate::header::Header;
+use crate::sizes::{KEY_BYTES, LONGEST_CODE, MARK_BYTES, WEIGHTS_OF_A_PART};
+use crate::table::{landing_vertex, line, rank_entries};
+use crate::text::run_and_ends;
+use crate::vertices::vertices;
+use crate::{build, length, CodeList};
+
+/// The codes of document 01's case 1, in list order.
+pub const CASE_1: [&[u8]; 4] = [b"BA", b"BB", b"DA", b"BC"];
+
+/// The weights with p(j,j) = 1 for every part j and 0 elsewhere; for r = 2 those of case 1.
+pub fn diagonal(r: usize) -> Vec<u16> {
+    let mut weights = vec![0; WEIGHTS_OF_A_PART * r];
+    for j in 0..r {
+        weights[WEIGHTS_OF_A_PART * j + j] = 1;
+    }
+    weights
+}
+
+/// The file that a list builds, if it builds.
+pub fn built(codes: &[Vec<u8>], r: u64, v: u64, weights: &[u16]) -> Option<Vec<u8>> {
+    let (run, ends) = run_and_ends(codes);
+    let list = CodeList {
+        run: &run,
+        ends: &ends,
+    };
+    let mut file = vec![0; length(codes.len() as u64, r, v)?];
+    build(&list, r, v, weights, &mut file).ok()?;
+    Some(file)
+}
+
+/// The file of a list that is known to build.
+pub fn directory(codes: &[&[u8]], r: u64, v: u64, weights: &[u16]) -> Vec<u8> {
+    let codes: Vec<Vec<u8>> = codes.iter().map(|code| code.to_vec()).collect();
+    built(&codes, r, v, weights).expect("the list builds")
+}
+
+pub fn case_1_file() -> Vec<u8> {
+    directory(&CASE_1, 2, 4, &diagonal(2))
+}
+
+/// A file with these values, with the rank entries that are right for them and with these codes
+/// stored, whether or not the codes lead to their lines.
+pub fn strangers_file(
+    r: usize,
+    v: usize,
+    weights: &[u16],
+    values: &[usize],
+    stored: &[&[u8]],
+) -> Vec<u8> {
+    let n = stored.len();
+    let entries = rank_entries(values, r);
+    file::write(&Header { n, r, v }, weights, values, &entries, stored)
+}
+
+/// A copy of a file with a change to it.
+pub fn changed(file: &[u8], change: impl FnOnce(&mut Vec<u8>)) -> Vec<u8> {
+    let mut copy = file.to_vec();
+    change(&mut copy);
+    copy
+}
+
+/// The line that a code leads to by these values; none where its landing vertex is unassigned.
+pub fn lead(code: &[u8], weights: &[u16], values: &[usize], r: usize, v: usize) -> Option<usize> {
+    let landing_vertex = landing_vertex(&vertices(code, weights, r, v), values, r);
+    (values[landing_vertex] != r).then(|| line(landing_vertex, values, r))
+}
+
+/// Where the length of a line's code is stored.
+pub fn length_place(header: &Header, line: usize) -> usize {
+    header.key_record(line) + MARK_BYTES
+}
+
+/// Where the code of a line is stored, with its length before it and its filling after it.
+pub fn key_places(header: &Header, line: usize) -> std::ops::Range<usize> {
+    length_place(header, line)..header.key_record(line) + KEY_BYTES
+}
+
+/// The code stored at a line, if its length is allowed.
+pub fn stored_code<'a>(file: &'a [u8], header: &Header, line: usize) -> &'a [u8] {
+    let length = file::stored_length(file, header, line);
+    &file::code_and_filling(file, header, line)[..length.min(LONGEST_CODE)]
+}
