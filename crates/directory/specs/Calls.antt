@@ -5,9 +5,11 @@ use Prim.Native.Nat.{ℕ}
 use Rattle.directory.specs.declared.Built.{Built}
 use Rattle.directory.specs.declared.Opening.{Opening}
 use Rattle.directory.specs.declared.Found.{Found}
-use Rattle.directory.specs.Sizes.{headed, headerAllowed}
+use Rattle.directory.specs.Sizes.{Header, headed, headerAllowed}
 use Rattle.directory.specs.Kind.{Kind, HD}
-use Rattle.directory.specs.File.{fileLength}
+use Rattle.directory.specs.Refusals.{Refusal, first}
+use Rattle.directory.specs.File.{fileLength, headerIn, leadIn}
+use Rattle.directory.specs.Answers.{foundNumbers}
 use Rattle.directory.specs.Building as building
 use Rattle.directory.specs.Opening as opening
 use Rattle.directory.specs.LookingUp as lookingUp
@@ -38,7 +40,28 @@ openOf f = opening.opening (kindOf f) f
 unfoldable pub lookupOf : List ℕ → List ℕ → Found
 lookupOf f t = lookingUp.lookup (kindOf f) f t
 
--- showing: the part of the file, and its bytes
+-- ---- the same in the paper's numbers
+
+-- by a table: number, place, n, r and v; success is 0, and so is its place; a refusal leaves n, r and v 0
+unfoldable pub openNumbersBy : List Refusal → Header → ℕ × ℕ × ℕ × ℕ × ℕ
+openNumbersBy table h = first (0, 0, h .n, h .r, h .v) (λ number place. (number, place, 0, 0, 0)) table
+
+unfoldable pub headerNumbersOf : List ℕ → ℕ × ℕ × ℕ × ℕ × ℕ
+headerNumbersOf f = let h = headerIn f in openNumbersBy (opening.headerRefusals (kindOf f) h f) h
+
+unfoldable pub openNumbersOf : List ℕ → ℕ × ℕ × ℕ × ℕ × ℕ
+openNumbersOf f = let h = headerIn f in openNumbersBy (opening.openRefusals (kindOf f) h f) h
+
+-- kind, number, place and line; the kind of a refusal is 2
+unfoldable pub lookupNumbersOf : List ℕ → List ℕ → ℕ × ℕ × ℕ × ℕ
+lookupNumbersOf f t =
+    let h = headerIn f in
+    let K = kindOf f in
+    first (foundNumbers (lookingUp.found K h f t (leadIn K h f t))) (λ number place. (2, number, place, 0)) (lookingUp.lookupRefusals K h f t)
+
+-- ---- showing and listing
+
+-- the part of the file, and its bytes
 unfoldable pub showPartOf : List ℕ → ℕ → showing.Part
 showPartOf f l = showing.shownPart (kindOf f) f l
 

@@ -21,10 +21,10 @@ use Rattle.directory.specs.Whole.{Framed, Whole}
 use Rattle.directory.specs.Opening.{headerRefusals, openRefusals}
 use Rattle.directory.specs.LookingUp.{lookupRefusals}
 use Rattle.directory.specs.Showing.{emptyPart, bytesOf, IsPart, shown, ShowsNothing, ShowsCode}
-use Rattle.directory.specs.Calls.{kindOf, lengthOf, headerOf, openOf, lookupOf, showPartOf, showOf}
-use Rattle.directory.specs.Answers.{openingNumbers, groupOf, meaningOf}
+use Rattle.directory.specs.Calls.{kindOf, lengthOf, headerOf, openOf, lookupOf, headerNumbersOf, openNumbersOf, lookupNumbersOf, showPartOf, showOf}
+use Rattle.directory.specs.Answers.{openingNumbers, foundNumbers, groupOf, meaningOf}
 use Rattle.directory.specs.RefusalLaws.{given-more}
-use Rattle.directory.specs.NumberLaws.{open-numbers, lookup-numbers, numbers-of-success, numbers-of-refusal}
+use Rattle.directory.specs.NumberLaws.{header-paper, open-paper, lookup-paper, open-numbers, lookup-numbers, numbers-of-success, numbers-of-refusal}
 use Rattle.directory.specs.OpeningLaws.{header-opened, header-refused, opening-opened, opening-refused}
 use Rattle.directory.specs.LookupLaws.{lookup-line, lookup-below, lookup-refused}
 use Rattle.directory.specs.ShowingLaws.{shown-part, shown-stored, part-empty, shown-empty, shown-bytes}
@@ -94,17 +94,27 @@ module _ (f : List ℕ) where
   some-number : (k p : ℕ) → openOf f ≡ opening.Refused k p → 1 ≤ k
   some-number k p e = omega (arith, open-numbers (kindOf f) (headerIn f) f (opening-is-refused-by-the-first-that-applies k p .0 e) .0)
 
+  -- the numbers of an answer are the paper's
+  pub the-numbers-of-the-header : openingNumbers (headerOf f) ≡ headerNumbersOf f
+  the-numbers-of-the-header = header-paper f
+
+  pub the-numbers-of-opening : openingNumbers (openOf f) ≡ openNumbersOf f
+  the-numbers-of-opening = open-paper f
+
+  pub the-numbers-of-looking-up : (t : List ℕ) → foundNumbers (lookupOf f t) ≡ lookupNumbersOf f t
+  the-numbers-of-looking-up = lookup-paper f
+
   -- a refusal of opening has a number from 9 to 15
   pub opening-refuses-with-9-to-15 : (k p : ℕ) → openOf f ≡ opening.Refused k p → (9 ≤ k) × (k ≤ 15)
   opening-refuses-with-9-to-15 k p e = open-numbers (kindOf f) (headerIn f) f (opening-is-refused-by-the-first-that-applies k p .0 e)
 
   -- so number 0 is given exactly if the file opens, with the place 0 and its n, r and v
-  pub number-0-exactly-if-it-opens : (n r v : ℕ) → (openingNumbers (openOf f) ≡ (0, 0, n, r, v)) ↔ (openOf f ≡ opening.Opened n r v)
-  number-0-exactly-if-it-opens = numbers-of-success (openOf f) some-number
+  pub number-0-exactly-if-it-opens : (n r v : ℕ) → (openNumbersOf f ≡ (0, 0, n, r, v)) ↔ (openOf f ≡ opening.Opened n r v)
+  number-0-exactly-if-it-opens = rw (← open-paper f) (numbers-of-success (openOf f) some-number)
 
   -- otherwise the number and the place are those of the refusal, and n, r and v are 0
-  pub otherwise-the-refusals-number-and-place : (k p : ℕ) → 1 ≤ k → (openingNumbers (openOf f) ≡ (k, p, 0, 0, 0)) ↔ (openOf f ≡ opening.Refused k p)
-  otherwise-the-refusals-number-and-place = numbers-of-refusal (openOf f) some-number
+  pub otherwise-the-refusals-number-and-place : (k p : ℕ) → 1 ≤ k → (openNumbersOf f ≡ (k, p, 0, 0, 0)) ↔ (openOf f ≡ opening.Refused k p)
+  otherwise-the-refusals-number-and-place = rw (← open-paper f) (numbers-of-refusal (openOf f) some-number)
 
   -- ---- looking up
 

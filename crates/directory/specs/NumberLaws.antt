@@ -1,4 +1,4 @@
--- The numbers that the calls on a file refuse with, each within its group; so number 0 is success alone. Assumes nothing.
+-- The numbers that the calls on a file refuse with, each within its group; so number 0 is success alone; and each answer's numbers are the paper's. Assumes nothing.
 use mathlib.Core.Path.{_≡_, refl, ap}
 use mathlib.Core.Logic.{_↔_}
 use mathlib.Core.Bool.{Bool, true, _&&_}
@@ -14,13 +14,16 @@ use Rattle.counting.specs.Lists.{every}
 use Rattle.counting.specs.ListsLaws.{every-passes}
 use Rattle.directory.specs.declared.Opening.{Opening}
 use Rattle.directory.specs.declared.Opening.the-variants.{Opened, Refused}
+use Rattle.directory.specs.declared.Found.the-variants as found
 use Rattle.directory.specs.Sizes.{Header}
 use Rattle.directory.specs.Kind.{Kind}
 use Rattle.directory.specs.Refusals.{Refusal, Given}
+use Rattle.directory.specs.RefusalLaws.{first-after}
 use Rattle.directory.specs.Values.{tableRefusals}
-use Rattle.directory.specs.Opening.{headerRefusals, wrongMark, markRefusals, keyRefusals, recordRefusals, openRefusals}
-use Rattle.directory.specs.LookingUp.{lookupRefusals}
-use Rattle.directory.specs.Answers.{openingNumbers}
+use Rattle.directory.specs.Opening.{headerRefusals, wrongMark, markRefusals, keyRefusals, recordRefusals, openRefusals, openedUnless, header, opening}
+use Rattle.directory.specs.LookingUp.{lookupRefusals, lookup}
+use Rattle.directory.specs.Answers.{openingNumbers, foundNumbers}
+use Rattle.directory.specs.Calls.{headerOf, openOf, lookupOf, openNumbersBy, headerNumbersOf, openNumbersOf, lookupNumbersOf}
 
 -- the number of a row is from low to high
 unfoldable numbered : ℕ → ℕ → Refusal → Bool
@@ -70,3 +73,17 @@ module _ (o : Opening) (never : (k p : ℕ) → o ≡ Refused k p → 1 ≤ k) w
           let a : i ≡ k = ap (λ x. x .0) e in
           let b : q ≡ p = ap (λ x. x .1) e in
           cc
+
+-- ---- the numbers of an answer are the paper's
+
+pub header-paper : (f : List ℕ) → openingNumbers (headerOf f) ≡ headerNumbersOf f
+unfolding headerOf header openedUnless headerNumbersOf openNumbersBy
+header-paper f = first-after openingNumbers _ Refused _
+
+pub open-paper : (f : List ℕ) → openingNumbers (openOf f) ≡ openNumbersOf f
+unfolding openOf opening openedUnless openNumbersOf openNumbersBy
+open-paper f = first-after openingNumbers _ Refused _
+
+pub lookup-paper : (f t : List ℕ) → foundNumbers (lookupOf f t) ≡ lookupNumbersOf f t
+unfolding lookupOf lookup lookupNumbersOf
+lookup-paper f t = first-after foundNumbers _ found.Refused _

@@ -102,3 +102,11 @@ module _ {A : Type 0} (ok : A) (refused : ℕ → ℕ → A) where
     -- .. and where `ok` is none, it is that of the table
     pub first-given : ((k p : ℕ) → ok ≢ refused k p) → (table : List Refusal) (k p : ℕ) → (first ok refused table ≡ refused k p) ↔ Given table k p
     first-given d table k p = (λ e. ⊎-elim (λ g. g) (λ w. absurd (d k p (w .1))) (first-refused table k p .0 e), given-first)
+
+-- what is made of an answer is made of its refusals and of its success
+pub first-after : {A B : Type 0} (g : A → B) (ok : A) (refused : ℕ → ℕ → A) (table : List Refusal) → g (first ok refused table) ≡ first (g ok) (λ k p. g (refused k p)) table
+first-after g ok refused table =
+    ⊎-elim
+    (λ w. ap g (given-first ok refused (w .2)) ∙ sym (given-first (g ok) (λ k p. g (refused k p)) (w .2)))
+    (λ c. ap g (first-none ok refused table c) ∙ sym (first-none (g ok) (λ k p. g (refused k p)) table c))
+    (given-or-none table)

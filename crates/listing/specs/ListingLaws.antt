@@ -1,5 +1,5 @@
 -- The lister's text follows from what opening gives, and longestListing bytes are room for it. Assumes nothing.
-use mathlib.Core.Path.{_≡_, sym, ap, _∙_}
+use mathlib.Core.Path.{_≡_, sym, ap}
 use mathlib.Core.Logic.{⊎-elim}
 use mathlib.Core.List.{List}
 use Prim.Native.Nat.{ℕ, _^_, _≤_, _<_}
@@ -9,8 +9,7 @@ use lib.Seq.{length-take-le}
 use Rattle.directory.specs.declared.Opening.the-variants.{Opened, Refused}
 use Rattle.directory.specs.Sizes.{mostCodes}
 use Rattle.directory.specs.Kind.{HD}
-use Rattle.directory.specs.Refusals.{Refusal, first}
-use Rattle.directory.specs.RefusalLaws.{first-none, given-first, given-or-none}
+use Rattle.directory.specs.RefusalLaws.{first-after}
 use Rattle.directory.specs.File.{headerIn}
 use Rattle.directory.specs.Opening.{openRefusals, openedUnless, opening}
 use Rattle.directory.specs.OpeningLaws.{opening-opened}
@@ -20,14 +19,6 @@ use Rattle.directory.specs.Calls.{openOf, showOf, listingOf}
 use Rattle.listing.specs.Text.{lines, textOf, longestLine, longestListing, Counts}
 use Rattle.listing.specs.TextLaws.{decimal-length, hex-length}
 use Rattle.listing.specs.LineLaws.{listed-line-length, refused-line-length}
-
--- what is made of an answer is made of its refusals and of its success
-first-after : {A B : Type 0} (g : A → B) (ok : A) (refused : ℕ → ℕ → A) (table : List Refusal) → g (first ok refused table) ≡ first (g ok) (λ k p. g (refused k p)) table
-first-after g ok refused table =
-    ⊎-elim
-    (λ w. ap g (given-first ok refused (w .2)) ∙ sym (given-first (g ok) (λ k p. g (refused k p)) (w .2)))
-    (λ c. ap g (first-none ok refused table c) ∙ sym (first-none (g ok) (λ k p. g (refused k p)) table c))
-    (given-or-none table)
 
 pub listing-text : (f : List ℕ) → listingOf f ≡ textOf f (openOf f)
 unfolding listingOf listing openOf opening openedUnless lines showOf

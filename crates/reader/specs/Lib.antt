@@ -1,3 +1,4 @@
 pub mod HeadingLaws
 pub mod AfterHeader
 pub mod FindLaws
+pub mod Papers

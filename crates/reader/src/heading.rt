@@ -10,7 +10,8 @@ use records::numbers::two;
 use records::offsets::HEADER;
 use records::offsets::key_at;
 ghost use mathlib.Core.Path.{_≡_};
-ghost use Rattle.directory.specs.Calls.{headerOf};
+ghost use Rattle.directory.specs.Answers.{openingNumbers};
+ghost use Rattle.directory.specs.Calls.{headerOf, headerNumbersOf};
 
 // Where the numbers stand in the header.
 const CODES_AT: usize = 2;
@@ -21,7 +22,8 @@ const PART_SIZE_AT: usize = 5;
 
 // n, r and v, or the first of the refusals 9, 10, 11 and 9.
 pub fn header(file: &[u8]) -> Opening
-    ensures { λ o. ⌜ o ≡ headerOf (now (file .entry)) ⌝ }
+    ensures given { λ o. ⌜ o ≡ headerOf (now (file .entry)) ⌝ }
+    ensures paper { λ o. ⌜ openingNumbers o ≡ headerNumbersOf (now (file .entry)) ⌝ }
 {
     if file.len() < HEADER {
         return Opening::Refused(WRONG_SIZE, 0);

@@ -16,7 +16,8 @@ ghost use Rattle.directory.specs.Kind.{HD};
 ghost use Rattle.directory.specs.File.{leadIn};
 ghost use Rattle.directory.specs.LookingUp.{found};
 ghost use Rattle.directory.specs.Whole.{Framed};
-ghost use Rattle.directory.specs.Calls.{lookupOf};
+ghost use Rattle.directory.specs.Answers.{foundNumbers};
+ghost use Rattle.directory.specs.Calls.{lookupOf, lookupNumbersOf};
 ghost use Rattle.records.specs.Standing.{mostBytes};
 
 // What is found where a code leads: its line if it stands there.
@@ -40,7 +41,8 @@ fn find(file: &[u8], n: usize, r: usize, v: usize, code: &[u8]) -> Found
 
 // The line of a code, no line, or the first of the refusals 9, 10, 11, 9, 16, and 13 for a line of n or more.
 pub fn lookup(file: &[u8], code: &[u8]) -> Found
-    ensures { λ o. ⌜ o ≡ lookupOf (now (file .entry)) (now (code .entry)) ⌝ }
+    ensures given { λ o. ⌜ o ≡ lookupOf (now (file .entry)) (now (code .entry)) ⌝ }
+    ensures paper { λ o. ⌜ foundNumbers o ≡ lookupNumbersOf (now (file .entry)) (now (code .entry)) ⌝ }
 {
     match header(file) {
         Opening::Refused(number, place) => Found::Refused(number, place),

@@ -9,7 +9,8 @@ ghost use Rattle.directory.specs.Sizes.{headed};
 ghost use Rattle.directory.specs.Kind.{HD};
 ghost use Rattle.directory.specs.Whole.{Framed};
 ghost use Rattle.directory.specs.Opening.{recordRefusals, openedUnless};
-ghost use Rattle.directory.specs.Calls.{openOf};
+ghost use Rattle.directory.specs.Answers.{openingNumbers};
+ghost use Rattle.directory.specs.Calls.{openOf, openNumbersOf};
 
 // The records after the header: their marks, then the values and rank entries, then the KY records.
 fn open_records(file: &[u8], n: usize, r: usize, v: usize) -> Opening
@@ -27,7 +28,8 @@ fn open_records(file: &[u8], n: usize, r: usize, v: usize) -> Opening
 
 // n, r and v, or the first refusal of 9 to 15 that applies.
 pub fn open(file: &[u8]) -> Opening
-    ensures { λ o. ⌜ o ≡ openOf (now (file .entry)) ⌝ }
+    ensures given { λ o. ⌜ o ≡ openOf (now (file .entry)) ⌝ }
+    ensures paper { λ o. ⌜ openingNumbers o ≡ openNumbersOf (now (file .entry)) ⌝ }
 {
     match header(file) {
         Opening::Refused(number, place) => Opening::Refused(number, place),

@@ -15,10 +15,10 @@ use Rattle.listing.proofs.list.Tie as tie
 
 -- what opening gave, ..
 opened : (c : tie.After-opened) → openOf (c .before .before .before .before .before .args .file .now) ≡ Opened (c .opened .given .0 .0) (c .opened .given .0 .1 .0) (c .opened .given .0 .1 .1 .0)
-opened c = sym (c .before .before .open .ensures) ∙ c .opened .given .1
+opened c = sym (c .before .before .open .ensures .0) ∙ c .opened .given .1
 
 refused : (c : tie.After-opened2) → openOf (c .before .before .before .before .before .args .file .now) ≡ Refused (c .opened2 .given .0 .0) (c .opened2 .given .0 .1 .0)
-refused c = sym (c .before .before .open .ensures) ∙ c .opened2 .given .1
+refused c = sym (c .before .before .open .ensures .0) ∙ c .opened2 .given .1
 
 -- .. and its refusal is a line that has room
 short : (c : tie.After-known-told2) → length (refusedLine (c .before .opened2 .given .0 .0) (c .before .opened2 .given .0 .1 .0)) ≤ longestListing

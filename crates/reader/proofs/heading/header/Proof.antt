@@ -10,18 +10,19 @@ use Rattle.directory.specs.Sizes.{headed}
 use Rattle.directory.specs.Kind.{HD}
 use Rattle.directory.specs.Bytes.{marked}
 use Rattle.directory.specs.File.{headerIn}
+use Rattle.reader.specs.Papers.{header-given}
 use Rattle.reader.specs.HeadingLaws.{allowed-room, heading-short, heading-unmarked, heading-disallowed, heading-length, heading-is}
 use Rattle.reader.proofs.heading.header.Statement.{statement}
 use Rattle.reader.proofs.heading.header.Tie as tie
 
 returns : tie.Need-returns
-returns c = heading-short _ (omega arith)
+returns c = header-given _ (heading-short _ (omega arith))
 
 marked-requires : tie.Need-marked-requires
 marked-requires c κs = search needs
 
 returns-2 : tie.Need-returns-2
-returns-2 c = heading-unmarked _ (omega arith) (sym (c .before .marked .ensures) ∙ not-true _ (c .if2 .taken))
+returns-2 c = header-given _ (heading-unmarked _ (omega arith) (sym (c .before .marked .ensures) ∙ not-true _ (c .if2 .taken)))
 
 two-requires : tie.Need-two-requires
 two-requires c κs = search needs
@@ -47,13 +48,13 @@ unfolding headerIn
 numbers c = λ i. record { n = sym (c .before .before .two .ensures .0) i; r = sym (c .before .byte .ensures .0) i; v = sym (c .two2 .ensures .0) i }
 
 returns-3 : tie.Need-returns-3
-returns-3 c = let a = c .before in heading-disallowed (fileOf (a .before)) (omega arith) (right (a .before)) (a .before .before .before .two .result) (a .before .before .byte .result) (a .before .two2 .result) (numbers (a .before)) (sym (a .allowed .ensures) ∙ not-true _ (c .if3 .taken))
+returns-3 c = let a = c .before in header-given _ (heading-disallowed (fileOf (a .before)) (omega arith) (right (a .before)) (a .before .before .before .two .result) (a .before .before .byte .result) (a .before .two2 .result) (numbers (a .before)) (sym (a .allowed .ensures) ∙ not-true _ (c .if3 .taken)))
 
 key-at-requires : tie.Need-key-at-requires
 key-at-requires c κs = let a = c .before in allowed-room (a .before .before .before .two .result) (a .before .before .byte .result) (a .before .two2 .result) (sym (a .allowed .ensures) ∙ not-false _ (c .if3 .left))
 
 returns-4 : tie.Need-returns-4
-returns-4 c = let k = c .before in let a = k .before .before in heading-length (fileOf (a .before)) (omega arith) (right (a .before)) (a .before .before .before .two .result) (a .before .before .byte .result) (a .before .two2 .result) (numbers (a .before)) (sym (a .allowed .ensures) ∙ not-false _ (k .before .if3 .left)) (λ e. c .if4 .taken (e ∙ sym (k .key-at .ensures)))
+returns-4 c = let k = c .before in let a = k .before .before in header-given _ (heading-length (fileOf (a .before)) (omega arith) (right (a .before)) (a .before .before .before .two .result) (a .before .before .byte .result) (a .before .two2 .result) (numbers (a .before)) (sym (a .allowed .ensures) ∙ not-false _ (k .before .if3 .left)) (λ e. c .if4 .taken (e ∙ sym (k .key-at .ensures))))
 
 cast-t9 : tie.Need-cast-t9
 cast-t9 c = search needs
@@ -65,7 +66,7 @@ cast-t11 : tie.Need-cast-t11
 cast-t11 c = search needs
 
 returns-5 : tie.Need-returns-5
-returns-5 c = let k = c .before in let a = k .before .before in heading-is (fileOf (a .before)) (omega arith) (right (a .before)) (a .before .before .before .two .result) (a .before .before .byte .result) (a .before .two2 .result) (numbers (a .before)) (sym (a .allowed .ensures) ∙ not-false _ (k .before .if3 .left)) (c .if4 .left ∙ k .key-at .ensures)
+returns-5 c = let k = c .before in let a = k .before .before in header-given _ (heading-is (fileOf (a .before)) (omega arith) (right (a .before)) (a .before .before .before .two .result) (a .before .before .byte .result) (a .before .two2 .result) (numbers (a .before)) (sym (a .allowed .ensures) ∙ not-false _ (k .before .if3 .left)) (c .if4 .left ∙ k .key-at .ensures))
 
 pub header-spec : {M : Type 1} → statement M
 header-spec =

@@ -36,13 +36,13 @@ cast-key-part-3 c = search needs
 
 -- the header is right
 right : (c : tie.After-n) → let g = c .n .given .0 in Opened (g .0) (g .1 .0) (g .1 .1 .0) ≡ headerOf (c .before .before .before .before .args .file .now)
-right c = sym (c .n .given .1) ∙ c .before .before .header .ensures
+right c = sym (c .n .given .1) ∙ c .before .before .header .ensures .0
 
 key-part-requires : tie.Need-key-part-requires
 key-part-requires c κs = header-framed _ _ _ _ (right (c .before))
 
 returns : tie.Need-returns
-returns c = let p = c .before in rw (← show-refused _ _ _ (sym (p .enum-told .given .1) ∙ p .before .before .header .ensures) _) record { bytes = refl; block = refl; from = refl }
+returns c = let p = c .before in rw (← show-refused _ _ _ (sym (p .enum-told .given .1) ∙ p .before .before .header .ensures .0) _) record { bytes = refl; block = refl; from = refl }
 
 returns-2 : tie.Need-returns-2
 returns-2 c = rw (← show-part _ _ _ _ (right (c .before .before)) _) (c .key-part .ensures)
