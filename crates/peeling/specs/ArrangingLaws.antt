@@ -1,16 +1,15 @@
 -- From the end of the peeling to the values, and from these to the lines. Assumes nothing.
 -- D, C, O, W, B, R and K stand for the arrays of degrees, index sums, order, values, counts below, rank entries and keys.
-use mathlib.Core.Path.{_≡_, sym, ap, _∙_}
+use mathlib.Core.Path.{_≡_, refl, sym, ap, _∙_}
 use mathlib.Core.List.{List, _++_}
-use Prim.Native.Nat.{ℕ, _+_, _*_, _%_, _≤_, _<_}
+use Prim.Native.Nat.{ℕ, _+_, _*_, _≤_, _<_}
 use native.Mathlib.Omega.{arith}
 use lib.ListN.{length, getD, take}
 use lib.Seq.{take-all, length-take-le}
-use Rattle.counting.specs.Below.{bit}
-use Rattle.counting.specs.BelowLaws.{sum-equal}
 use Rattle.graph.specs.Graph.{Graph}
 use Rattle.graph.specs.Peeling.{numberLeft}
-use Rattle.graph.specs.Assignment.{assigned, landing, assignedBelow, blockSize, blocks, rankEntry, values, landingVertex, line, edgeOfLine}
+use Rattle.graph.specs.Assignment.{landing, assignedBelow, blockSize, blocks, rankEntry, values, landingVertex, line, edgeOfLine}
+use Rattle.graph.specs.RankLaws.{landing-equal, below-equal}
 use Rattle.graph.specs.PeelingLaws.{left-and-removed}
 use Rattle.graph.specs.LandingLaws.{landing-inside}
 use Rattle.graph.specs.LineLaws.{line-below, line-own, edge-line}
@@ -41,12 +40,11 @@ module _ {n r m : ℕ} {edges : List ℕ} (held : Held n r m edges) (nothing : n
   G = graphIn n r m edges
 
   below-is : (y : ℕ) → y < m → getD B y 0 ≡ assignedBelow r (values G) y
-  unfolding assignedBelow
-  below-is y l = ofBelow y l ∙ sum-equal y _ _ (λ x a. ap (λ v. bit (assigned r v)) (ofValues x (omega arith)))
+  below-is y l = ofBelow y l ∙ below-equal r (λ x. getD W x 0) (values G) y (λ x a. ofValues x (omega arith))
 
   landing-is : (e : ℕ) → e < n → landing r (λ x. getD W x 0) (vertexAt r edges e) ≡ landingVertex G e
-  unfolding landingVertex landing
-  landing-is e l = ap (λ s. vertexAt r edges e (s % r)) (sum-equal r _ _ (λ j a. ofValues (vertexAt r edges e j) (held .proper .inside e j l a)))
+  unfolding landingVertex
+  landing-is e l = landing-equal r (λ x. getD W x 0) (values G) (vertexAt r edges e) (vertexAt r edges e) (held .proper .some) (λ j a. refl) (λ j a. ofValues (vertexAt r edges e j) (held .proper .inside e j l a))
 
   line-is : (e : ℕ) → e < n → lineIn r edges W B e ≡ line G e
   unfolding line
