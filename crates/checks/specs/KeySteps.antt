@@ -16,40 +16,40 @@ use Rattle.directory.specs.declared.Opening.the-variants.{Opened, Refused}
 use Rattle.directory.specs.Sizes.{Header, headed}
 use Rattle.directory.specs.Codes.{wrongLength}
 use Rattle.directory.specs.Kind.{HD}
-use Rattle.directory.specs.Bytes.{byteAt, markLength}
+use Rattle.directory.specs.Bytes.{byteAt}
 use Rattle.directory.specs.Leads.{leadsTo}
-use Rattle.directory.specs.File.{keyHead, leadIn, storedCode}
+use Rattle.directory.specs.File.{keyLength, leadIn, storedCode}
 use Rattle.directory.specs.Whole.{Key}
 use Rattle.directory.specs.WholeLaws.{key as key-right}
 use Rattle.directory.specs.Opening.{fillingSet, keyWrong, astray, keyRefusals, openedUnless}
-use Rattle.records.specs.Standing.{mostBytes, keyFrom}
-use Rattle.records.specs.StandingLaws.{key-length-from, code-from}
+use Rattle.records.specs.Standing.{mostBytes, codeFrom}
+use Rattle.records.specs.StandingLaws.{code-from}
 use Rattle.checks.specs.RefusalSteps.{opened-at-end, row-given, row-passed}
 
 module _ (n r v : ℕ) (f : List ℕ) where
   abbrev h : Header
   h = headed n r v
 
-  -- ---- the tests: the KY record of line l starts at `key`, with the length k
+  -- ---- the tests: the KY record of line l gives the length k
 
-  module _ (l key k : ℕ) (e : key ≡ keyFrom r v l) (d : k ≡ byteAt f (key + markLength)) where
+  module _ (l k : ℕ) (e : k ≡ keyLength HD h f l) where
     pub key-empty : k ≡ 0 → true ≡ keyWrong HD h f l
     unfolding keyWrong wrongLength
-    key-empty z = rw (← key-length-from n r v f l key k e d, z)
+    key-empty z = rw (← e, z)
 
     pub key-long : mostBytes < k → true ≡ keyWrong HD h f l
     unfolding keyWrong wrongLength
-    key-long m = rw (← key-length-from n r v f l key k e d, lt-ltb mostBytes k m, ne-eqb k 0 (omega arith))
+    key-long m = rw (← e, lt-ltb mostBytes k m, ne-eqb k 0 (omega arith))
 
     -- otherwise the filling decides
-    pub key-filling : k ≢ 0 → k ≤ mostBytes → any (mostBytes - k) (λ i. not (eqb (byteAt f (key + keyHead + k + i)) 0)) ≡ keyWrong HD h f l
+    pub key-filling : k ≢ 0 → k ≤ mostBytes → any (mostBytes - k) (λ i. not (eqb (byteAt f (codeFrom r v l + k + i)) 0)) ≡ keyWrong HD h f l
     unfolding keyWrong wrongLength fillingSet
-    key-filling z m = rw (← key-length-from n r v f l key k e d, ne-eqb k 0 z, le-ltb mostBytes k m, code-from n r v f l key k e d)
+    key-filling z m = rw (← e, ne-eqb k 0 z, le-ltb mostBytes k m, code-from n r v l)
 
-    -- a is where the stored code leads, the bytes from the code's start to its end
-    pub stray-from : (a : Lead) → a ≡ leadIn HD h f (take (key + keyHead + k - (key + keyHead)) (drop (key + keyHead) f)) → not (leadsTo l a) ≡ astray HD h f l
+    -- a is where the stored code leads, the k bytes from its start `at`
+    pub stray-from : (at : ℕ) → at ≡ codeFrom r v l → (a : Lead) → a ≡ leadIn HD h f (take (at + k - at) (drop at f)) → not (leadsTo l a) ≡ astray HD h f l
     unfolding astray storedCode
-    stray-from a i = let s : key + keyHead + k - (key + keyHead) ≡ k = omega arith in rw (i, s, key-length-from n r v f l key k e d, code-from n r v f l key k e d)
+    stray-from at i a d = let s : at + k - at ≡ k = omega arith in rw (d, s, e, i, code-from n r v l)
 
   -- ---- the answer: l is the lowest wrong record, k the lowest stray code
 

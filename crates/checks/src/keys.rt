@@ -3,12 +3,10 @@ use directory::Lead;
 use directory::Opening;
 use directory::STRAY_CODE;
 use directory::WRONG_KEY;
+use records::codes::key_length;
 use records::lead;
-use records::numbers::byte;
-use records::offsets::KEY_HEAD;
-use records::offsets::MARK;
 use records::offsets::POSITIONS;
-use records::offsets::key_at;
+use records::offsets::code_at;
 ghost use mathlib.Core.Path.{_≡_};
 ghost use mathlib.Core.Bool.{not};
 ghost use Prim.Native.Nat.{ℕ, _+_, _≤_, _<_};
@@ -42,15 +40,14 @@ fn key_wrong(file: &[u8], r: usize, v: usize, l: usize) -> bool
     requires { ⌜ Keyed r v l (now file) ⌝ }
     ensures { λ yes. ⌜ ((n : ℕ) → yes ≡ keyWrong HD (headed n r v) (now (file .entry)) l) ⌝ }
 {
-    let key = key_at(r, v, l);
-    let size = byte(file, key + MARK);
+    let size = key_length(file, r, v, l);
     if size == 0 {
         return true;
     }
     if POSITIONS < size {
         return true;
     }
-    filling_set(file, key + KEY_HEAD + size, POSITIONS - size)
+    filling_set(file, code_at(r, v, l) + size, POSITIONS - size)
 }
 
 // The lowest line whose KY record is wrong, and n where none is.
@@ -75,9 +72,8 @@ fn strays(file: &[u8], n: usize, r: usize, v: usize, l: usize) -> bool
     requires key { ⌜ Key HD (headed n r v) (now file) l ⌝ }
     ensures { λ yes. ⌜ yes ≡ astray HD (headed n r v) (now (file .entry)) l ⌝ }
 {
-    let key = key_at(r, v, l);
-    let from = key + KEY_HEAD;
-    let to = from + byte(file, key + MARK);
+    let from = code_at(r, v, l);
+    let to = from + key_length(file, r, v, l);
     match lead(file, n, r, v, &file[from..to]) {
         Lead::ToLine(k) => k != l,
         _ => true,

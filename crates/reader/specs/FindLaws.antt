@@ -3,7 +3,7 @@ use mathlib.Core.Path.{_≡_, sym}
 use mathlib.Core.Logic.{_⊎_}
 use mathlib.Core.Bool.{true, false}
 use mathlib.Core.List.{List}
-use Prim.Native.Nat.{ℕ, _+_, _≤_, _<_}
+use Prim.Native.Nat.{ℕ, _≤_, _<_}
 use borrow.Author.Tests.{lt-ltb, le-ltb}
 use Rattle.directory.specs.declared.Lead.{Lead}
 use Rattle.directory.specs.declared.Lead.the-variants.{Nowhere, ToLine, PastLast}
@@ -11,13 +11,12 @@ use Rattle.directory.specs.declared.Found.the-variants.{At, Unknown, Refused}
 use Rattle.directory.specs.Sizes.{Header, headed}
 use Rattle.directory.specs.CodesLaws.{length-wrong, length-right}
 use Rattle.directory.specs.Kind.{HD}
-use Rattle.directory.specs.Bytes.{byteAt, markLength}
-use Rattle.directory.specs.File.{keyHead, leadIn}
+use Rattle.directory.specs.File.{keyLength, leadIn}
 use Rattle.directory.specs.LeadLaws.{lead-below}
 use Rattle.directory.specs.LookingUp.{holdsCode, found}
 use Rattle.directory.specs.Showing.{Part, emptyPart, keyPart}
-use Rattle.records.specs.Standing.{mostBytes, keyFrom}
-use Rattle.records.specs.StandingLaws.{key-length-from, code-from}
+use Rattle.records.specs.Standing.{mostBytes, codeFrom}
+use Rattle.records.specs.StandingLaws.{code-from}
 
 module _ (h : Header) (f t : List ℕ) {d : Lead} where
   pub found-nowhere : Nowhere ≡ d → Unknown ≡ found HD h f t d
@@ -49,15 +48,15 @@ module _ (n r v : ℕ) (f : List ℕ) (l : ℕ) where
   unfolding keyPart
   part-past m = rw (le-ltb l n m)
 
-  -- the KY record starts at `key` with the length k
-  module _ (m : l < n) (key k : ℕ) (e : key ≡ keyFrom r v l) (d : k ≡ byteAt f (key + markLength)) where
+  -- the KY record gives the length k
+  module _ (m : l < n) (k : ℕ) (e : k ≡ keyLength HD (headed n r v) f l) where
     pub part-wrong : (k ≡ 0) ⊎ (mostBytes < k) → emptyPart ≡ keyPart HD (headed n r v) f l
     unfolding keyPart
-    part-wrong w = rw (lt-ltb l n m, ← key-length-from n r v f l key k e d, length-wrong mostBytes k .1 w)
+    part-wrong w = rw (lt-ltb l n m, ← e, length-wrong mostBytes k .1 w)
 
     abbrev part : Part
-    part = record { start = key + keyHead; size = k }
+    part = record { start = codeFrom r v l; size = k }
 
     pub part-here : 1 ≤ k → k ≤ mostBytes → part ≡ keyPart HD (headed n r v) f l
     unfolding keyPart
-    part-here a b = rw (lt-ltb l n m, ← key-length-from n r v f l key k e d, length-right mostBytes k .1 (a, b), code-from n r v f l key k e d)
+    part-here a b = rw (lt-ltb l n m, ← e, length-right mostBytes k .1 (a, b), code-from n r v l)

@@ -1,11 +1,9 @@
 // Showing the code of a line, as a part of the file.
 use crate::heading::header;
 use directory::Opening;
-use records::numbers::byte;
-use records::offsets::KEY_HEAD;
-use records::offsets::MARK;
+use records::codes::key_length;
 use records::offsets::POSITIONS;
-use records::offsets::key_at;
+use records::offsets::code_at;
 ghost use Rattle.directory.specs.Sizes.{headed};
 ghost use Rattle.directory.specs.Kind.{HD};
 ghost use Rattle.directory.specs.Showing.{IsPart, keyPart};
@@ -20,15 +18,14 @@ fn key_part(file: &[u8], n: usize, r: usize, v: usize, line: usize) -> &[u8]
     if n <= line {
         return &file[0..0];
     }
-    let key = key_at(r, v, line);
-    let size = byte(file, key + MARK);
+    let size = key_length(file, r, v, line);
     if size == 0 {
         return &file[0..0];
     }
     if POSITIONS < size {
         return &file[0..0];
     }
-    let from = key + KEY_HEAD;
+    let from = code_at(r, v, line);
     let to = from + size;
     &file[from..to]
 }

@@ -34,6 +34,10 @@ ranksFrom r v = valuesFrom r + (markLength + (r * v + 3) / 4)
 abbrev pub keyFrom : ℕ → ℕ → ℕ → ℕ
 keyFrom r v l = ranksFrom r v + (markLength + 2 * blocks (r * v)) + (keyHead + mostBytes) * l
 
+-- and the code in it
+abbrev pub codeFrom : ℕ → ℕ → ℕ → ℕ
+codeFrom r v l = keyFrom r v l + keyHead
+
 -- ---- what the reading functions need
 
 -- r and v are within the sizes

@@ -1,5 +1,5 @@
 -- The records stand where document 01 has them: the offsets that the code computes are those of the definitions. Assumes nothing.
-use mathlib.Core.Path.{_≡_, refl, ap, _∙_}
+use mathlib.Core.Path.{_≡_, refl, ap}
 use mathlib.Core.Logic.{_≢_}
 use mathlib.Core.Bool.{false}
 use mathlib.Core.List.{List}
@@ -18,7 +18,7 @@ use Rattle.directory.specs.KindLaws.{vertex-below}
 use Rattle.directory.specs.Values.{ranksAt, tableSize, valueIn, rankIn, lineIn}
 use Rattle.directory.specs.File.{weightsAt, valuesAt, keysAt, keyAt, fileLength, weightIn, tableIn, keyHead, codeAt, keyLength, storedCode}
 use Rattle.directory.specs.LookingUp.{holdsCode}
-use Rattle.records.specs.Standing.{mostBytes, bytesFrom, weightOf, valuesFrom, ranksFrom, keyFrom, Room, Tabled, Weighed}
+use Rattle.records.specs.Standing.{mostBytes, bytesFrom, weightOf, valuesFrom, ranksFrom, keyFrom, codeFrom, Room, Tabled, Weighed}
 
 module _ (n r v : ℕ) where
   abbrev h : Header
@@ -27,6 +27,10 @@ module _ (n r v : ℕ) where
   pub key-from : (l : ℕ) → keyFrom r v l ≡ keyAt HD h l
   unfolding keyAt keysAt tableSize ranksAt valuesAt weightsAt
   key-from l = omega arith
+
+  pub code-from : (l : ℕ) → codeFrom r v l ≡ codeAt HD h l
+  unfolding codeAt
+  code-from l = ap (λ a. a + keyHead) (key-from l)
 
   pub length-from : keyFrom r v n ≡ fileLength HD h
   unfolding fileLength
@@ -53,23 +57,19 @@ module _ (n r v : ℕ) where
     unfolding lineIn
     line-from y k c e d = rw (e, d, table-from)
 
-    -- the KY record of line l, which starts at `key` with the length k
-    module _ (l key k : ℕ) (e : key ≡ keyFrom r v l) (d : k ≡ byteAt f (key + markLength)) where
-      pub key-length-from : k ≡ keyLength HD h f l
-      unfolding keyLength
-      key-length-from = d ∙ ap (λ a. byteAt f (a + markLength)) (e ∙ key-from l)
+    pub key-length-from : (l : ℕ) → byteAt f (keyFrom r v l + markLength) ≡ keyLength HD h f l
+    unfolding keyLength
+    key-length-from l = ap (λ a. byteAt f (a + markLength)) (key-from l)
 
-      pub code-from : key + keyHead ≡ codeAt HD h l
-      unfolding codeAt
-      code-from = ap (λ a. a + keyHead) (e ∙ key-from l)
-
-      pub other-length : (t : List ℕ) → k ≢ length t → false ≡ holdsCode HD h f t l
+    -- the KY record of line l gives the length k
+    module _ (l k : ℕ) (e : k ≡ keyLength HD h f l) (t : List ℕ) where
+      pub other-length : k ≢ length t → false ≡ holdsCode HD h f t l
       unfolding holdsCode
-      other-length t i = rw (← key-length-from, ne-eqb k (length t) i)
+      other-length d = rw (← e, ne-eqb k (length t) d)
 
-      pub same-length : (t : List ℕ) → k ≡ length t → same (take (length t) (drop (key + keyHead) f)) t ≡ holdsCode HD h f t l
+      pub same-length : k ≡ length t → same (take (length t) (drop (codeFrom r v l) f)) t ≡ holdsCode HD h f t l
       unfolding holdsCode storedCode
-      same-length t i = rw (← key-length-from, i, eq-eqb (length t) (length t) refl, code-from)
+      same-length i = rw (← e, i, eq-eqb (length t) (length t) refl, code-from l)
 
 -- ---- what follows of what the functions need
 

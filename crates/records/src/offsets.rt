@@ -2,7 +2,7 @@
 ghost use mathlib.Core.Path.{_≡_};
 ghost use Prim.Native.Nat.{_≤_};
 ghost use Rattle.directory.specs.Sizes.{mostCodes};
-ghost use Rattle.records.specs.Standing.{Room, valuesFrom, ranksFrom, keyFrom};
+ghost use Rattle.records.specs.Standing.{Room, valuesFrom, ranksFrom, keyFrom, codeFrom};
 
 // The header: its mark, n, r and v.
 pub const HEADER: usize = 7;
@@ -14,7 +14,7 @@ pub const MARK: usize = 2;
 pub const POSITIONS: usize = 32;
 
 // The mark and the length before the code in a KY record.
-pub const KEY_HEAD: usize = 3;
+const KEY_HEAD: usize = 3;
 
 // The values stand here, under the mark of GV.
 pub fn values_at(r: usize) -> usize
@@ -39,4 +39,13 @@ pub fn key_at(r: usize, v: usize, l: usize) -> usize
     ensures { λ a. ⌜ a ≡ keyFrom r v l ⌝ }
 {
     ranks_at(r, v) + (MARK + 2 * ((r * v + 63) / 64)) + (KEY_HEAD + POSITIONS) * l
+}
+
+// The code of line l stands here, after its mark and length.
+pub fn code_at(r: usize, v: usize, l: usize) -> usize
+    requires room { ⌜ Room r v ⌝ }
+    requires few { ⌜ l ≤ mostCodes ⌝ }
+    ensures { λ a. ⌜ a ≡ codeFrom r v l ⌝ }
+{
+    key_at(r, v, l) + KEY_HEAD
 }

@@ -13,13 +13,13 @@ use Rattle.checks.proofs.keys.filling_set.Statement.{statement}
 use Rattle.checks.proofs.keys.filling_set.Tie as tie
 
 abbrev Inv-loop : tie.InvT-loop
-Inv-loop file at k i₀ i = (i ≤ k) × ((j : ℕ) → j < i → not (eqb (byteAt file (at + j)) 0) ≡ false)
+Inv-loop file at k i₀ i = ((j : ℕ) → j < i → not (eqb (byteAt file (at + j)) 0) ≡ false) × (i ≤ k)
 
 abbrev μ-loop : tie.MeasureT-loop
 μ-loop file at k i₀ i = k - i
 
 loop-holds : tie.Need-loop-holds Inv-loop μ-loop
-loop-holds c = (omega arith, λ j l. absurd (omega arith))
+loop-holds c = (λ j l. absurd (omega arith), omega arith)
 
 add-if1 : tie.Need-add-if1 Inv-loop μ-loop
 add-if1 c = search needs
@@ -37,10 +37,10 @@ loop-less : tie.Need-loop-less Inv-loop μ-loop
 loop-less c = omega arith
 
 loop-again : tie.Need-loop-again Inv-loop μ-loop
-loop-again c = (omega arith, below-more _ _ (c .before .before .before .loop .inv .1) (ap not (eq-eqb _ _ (c .if1 .left))))
+loop-again c = (below-more _ _ (c .before .before .before .loop .inv .0) (ap not (eq-eqb _ _ (c .if1 .left))), omega arith)
 
 returns-2 : tie.Need-returns-2 Inv-loop μ-loop
-returns-2 c = sym (any-none _ _ (λ j l. c .before .loop .inv .1 j (omega arith)))
+returns-2 c = sym (any-none _ _ (λ j l. c .before .loop .inv .0 j (omega arith)))
 
 pub filling-set-spec : {M : Type 1} → statement M
 filling-set-spec = tie.close (tie.spec Inv-loop μ-loop loop-holds add-if1 shared-slice-read-if1 returns add-i loop-less loop-again returns-2)

@@ -3,20 +3,23 @@ use mathlib.Core.Path.{_≡_, refl, sym, _∙_}
 use mathlib.Core.Logic.{⊎-elim}
 use mathlib.Core.Bool.{true, not}
 use mathlib.Core.List.{[], _∷_}
-use Prim.Native.Nat.{ℕ, _≤_}
+use Prim.Native.Nat.{ℕ, _+_, _-_, _≤_}
 use native.Mathlib.Omega.{arith}
-use lib.ListN.{length-take}
+use lib.ListN.{take, drop, length-take}
 use denote.Enum.Declared.{declared, tagOf}
 use types.Run.{OneOf}
-use borrow.Author.Needs.{needs}
 use Rattle.directory.specs.declared.Lead.{Lead}
 use Rattle.directory.specs.declared.Lead.the-variants.{Nowhere, ToLine, PastLast}
 use Rattle.directory.proofs.Lead.{enum}
+use Rattle.directory.specs.Sizes.{headed}
+use Rattle.directory.specs.Kind.{HD}
 use Rattle.directory.specs.Leads.{leadsTo}
+use Rattle.directory.specs.File.{leadIn}
+use Rattle.directory.specs.Opening.{astray}
 use Rattle.records.specs.Standing.{Keyed, mostBytes}
-use Rattle.records.specs.StandingLaws.{key-length-from}
 use Rattle.records.specs.FramedLaws.{framed-tabled, framed-keyed}
 use Rattle.checks.specs.KeySteps.{stray-from}
+use borrow.Author.Needs.{needs}
 use Rattle.checks.proofs.keys.strays.Statement.{statement}
 use Rattle.checks.proofs.keys.strays.Tie as tie
 
@@ -24,24 +27,18 @@ use Rattle.checks.proofs.keys.strays.Tie as tie
 keyed : (s : tie.Start) → Keyed (s .args .r) (s .args .v) (s .args .l) (s .args .file .now)
 keyed s = let a = s .args in framed-keyed (a .n) (a .r) (a .v) (a .file .now) (s .pre .0) (a .l) (s .pre .1 .0)
 
-key-at-requires : tie.Need-key-at-requires
-key-at-requires c κs = let k = keyed (c .before) in (k .room, omega (arith, k .few))
+code-at-requires : tie.Need-code-at-requires
+code-at-requires c κs = let k = keyed (c .before) in (k .room, omega (arith, k .few))
 
-add-from : tie.Need-add-from
-add-from c = search needs
+key-length-requires : tie.Need-key-length-requires
+key-length-requires c κs = keyed (c .before .before)
 
-add-byte : tie.Need-add-byte
-add-byte c = search needs
-
-byte-requires : tie.Need-byte-requires
-byte-requires c κs = omega (arith, keyed (c .before .before) .long)
-
-abbrev start : tie.After-byte → tie.Start
+abbrev start : tie.After-key-length → tie.Start
 start c = c .before .before .before
 
 -- its code has no more bytes than a code may have
-short : (c : tie.After-byte) → c .byte .result ≤ mostBytes
-short c = let s = start c in let a = s .args in rw (key-length-from (a .n) (a .r) (a .v) (a .file .now) (a .l) (c .before .key-at .result) (c .byte .result) (c .before .key-at .ensures) (c .byte .ensures .0)) (s .pre .1 .1 .most)
+short : (c : tie.After-key-length) → c .key-length .result ≤ mostBytes
+short c = let s = start c in rw (c .key-length .ensures .0 (s .args .n)) (s .pre .1 .1 .most)
 
 add-to : tie.Need-add-to
 add-to c = omega (arith, short c)
@@ -61,12 +58,12 @@ lead-requires c κs = let s = start (c .before) in let a = s .args in (framed-ta
 enum-known-k : tie.Need-enum-known-k
 enum-known-k c = search needs
 
-returns : tie.Need-returns
-returns c =
-    let d = c .before .before .before in
+-- where the stored code leads tells whether it is astray
+led : (d : tie.After-lead) (a : Lead) → let s = start (d .before .before) .args in let at = d .before .before .before .code-at .result in let k = d .before .before .key-length .result in a ≡ leadIn HD (headed (s .n) (s .r) (s .v)) (s .file .now) (take (at + k - at) (drop at (s .file .now))) → not (leadsTo (s .l) a) ≡ astray HD (headed (s .n) (s .r) (s .v)) (s .file .now) (s .l)
+led d a e =
     let b = d .before .before in
-    let a = start b .args in
-    stray-from (a .n) (a .r) (a .v) (a .file .now) (a .l) (b .before .key-at .result) (b .byte .result) (b .before .key-at .ensures) (b .byte .ensures .0) (ToLine (c .before .k .given .0 .0)) (sym (c .before .k .given .1) ∙ d .lead .ensures)
+    let s = start b .args in
+    stray-from (s .n) (s .r) (s .v) (s .file .now) (s .l) (b .key-length .result) (b .key-length .ensures .0 (s .n)) (b .before .code-at .result) (b .before .code-at .ensures) a e
 
 -- a lead that is not to a line is to no line
 elsewhere : (l : ℕ) (d : Lead) → OneOf (0 ∷ 2 ∷ []) (tagOf (declared enum) d) → not (leadsTo l d) ≡ true
@@ -74,21 +71,18 @@ elsewhere l Nowhere w = refl
 elsewhere l (ToLine k) w = absurd (⊎-elim (λ e. omega arith) (λ e. omega arith) w)
 elsewhere l (PastLast b) w = refl
 
+returns : tie.Need-returns
+returns c = let d = c .before .before .before in led d (ToLine (c .before .k .given .0 .0)) (sym (c .before .k .given .1) ∙ d .lead .ensures)
+
 returns-2 : tie.Need-returns-2
-returns-2 c =
-    let d = c .before in
-    let b = d .before .before in
-    let a = start b .args in
-    sym (elsewhere (a .l) (d .lead .result) (c .match .keys2)) ∙ stray-from (a .n) (a .r) (a .v) (a .file .now) (a .l) (b .before .key-at .result) (b .byte .result) (b .before .key-at .ensures) (b .byte .ensures .0) (d .lead .result) (d .lead .ensures)
+returns-2 c = let d = c .before in sym (elsewhere (start (d .before .before) .args .l) (d .lead .result) (c .match .keys2)) ∙ led d (d .lead .result) (d .lead .ensures)
 
 pub strays-spec : {M : Type 1} → statement M
 strays-spec =
     tie.close
     (tie.spec
-    key-at-requires
-    add-from
-    add-byte
-    byte-requires
+    code-at-requires
+    key-length-requires
     add-to
     sub-lead
     part-lead-start

@@ -1,11 +1,17 @@
 -- `reader::showing::key_part` meets its contract. Assumes nothing.
-use mathlib.Core.Path.{refl}
-use mathlib.Core.Logic.{inl, inr}
+use mathlib.Core.Path.{_≡_, refl, ap}
+use mathlib.Core.Logic.{_⊎_, inl, inr}
+use Prim.Native.Nat.{_+_, _<_}
 use native.Mathlib.Nat.{add-sub-cancel-left}
 use native.Mathlib.Omega.{arith}
-use borrow.Author.Needs.{needs}
+use denote.Ref.{ptr}
+use Rattle.directory.specs.Sizes.{headed}
+use Rattle.directory.specs.Kind.{HD}
+use Rattle.directory.specs.Showing.{emptyPart, keyPart}
+use Rattle.records.specs.Standing.{Keyed, mostBytes}
 use Rattle.records.specs.FramedLaws.{framed-keyed}
 use Rattle.reader.specs.FindLaws.{part-past, part-wrong, part-here}
+use borrow.Author.Needs.{needs}
 use Rattle.reader.proofs.showing.key_part.Statement.{statement}
 use Rattle.reader.proofs.showing.key_part.Tie as tie
 
@@ -21,14 +27,12 @@ part-result-end c = search needs
 returns : tie.Need-returns
 returns c = let a = c .before .before .before .args in rw (← part-past (a .n) (a .r) (a .v) (a .file .now) (a .line) (omega arith)) record { bytes = refl; block = refl; from = refl }
 
-key-at-requires : tie.Need-key-at-requires
-key-at-requires c κs = search needs
+-- the KY record of the line stands within the file
+keyed : (s : tie.Start) → s .args .line < s .args .n → Keyed (s .args .r) (s .args .v) (s .args .line) (s .args .file .now)
+keyed s l = let a = s .args in framed-keyed (a .n) (a .r) (a .v) (a .file .now) (s .pre) (a .line) l
 
-add-byte : tie.Need-add-byte
-add-byte c = search needs
-
-byte-requires : tie.Need-byte-requires
-byte-requires c κs = let s = c .before .before .before in let a = s .args in let k = framed-keyed (a .n) (a .r) (a .v) (a .file .now) (s .pre) (a .line) (omega arith) in omega (arith, k .long, c .key-at .ensures)
+key-length-requires : tie.Need-key-length-requires
+key-length-requires c κs = keyed (c .before .before) (c .if1 .left)
 
 sub-result-2 : tie.Need-sub-result-2
 sub-result-2 c = search needs
@@ -39,11 +43,15 @@ part-result-start-2 c = search needs
 part-result-end-2 : tie.Need-part-result-end-2
 part-result-end-2 c = search needs
 
-abbrev start : tie.After-byte → tie.Start
-start c = c .before .before .before .before
+abbrev start : tie.After-key-length → tie.Start
+start c = c .before .before .before
+
+-- nothing is shown of a wrong length
+wrong : (c : tie.After-key-length) → (c .key-length .result ≡ 0) ⊎ (mostBytes < c .key-length .result) → let a = start c .args in emptyPart ≡ keyPart HD (headed (a .n) (a .r) (a .v)) (a .file .now) (a .line)
+wrong c w = let a = start c .args in part-wrong (a .n) (a .r) (a .v) (a .file .now) (a .line) (c .before .if1 .left) (c .key-length .result) (c .key-length .ensures .0 (a .n)) w
 
 returns-2 : tie.Need-returns-2
-returns-2 c = let b = c .before .before in let a = start b .args in rw (← part-wrong (a .n) (a .r) (a .v) (a .file .now) (a .line) (omega arith) (b .before .key-at .result) (b .byte .result) (b .before .key-at .ensures) (b .byte .ensures .0) (inl (c .before .if2 .taken))) record { bytes = refl; block = refl; from = refl }
+returns-2 c = rw (← wrong (c .before .before) (inl (c .before .if2 .taken))) record { bytes = refl; block = refl; from = refl }
 
 sub-result-3 : tie.Need-sub-result-3
 sub-result-3 c = search needs
@@ -55,13 +63,17 @@ part-result-end-3 : tie.Need-part-result-end-3
 part-result-end-3 c = search needs
 
 returns-3 : tie.Need-returns-3
-returns-3 c = let b = c .before .before .before in let a = start b .args in rw (← part-wrong (a .n) (a .r) (a .v) (a .file .now) (a .line) (omega arith) (b .before .key-at .result) (b .byte .result) (b .before .key-at .ensures) (b .byte .ensures .0) (inr (c .before .if3 .taken))) record { bytes = refl; block = refl; from = refl }
+returns-3 c = rw (← wrong (c .before .before .before) (inr (c .before .if3 .taken))) record { bytes = refl; block = refl; from = refl }
 
 returns-4 : tie.Need-returns-4
-returns-4 c = let b = c .before .before .before in let a = start b .args in rw (← part-here (a .n) (a .r) (a .v) (a .file .now) (a .line) (omega arith) (b .before .key-at .result) (b .byte .result) (b .before .key-at .ensures) (b .byte .ensures .0) (omega arith) (omega arith)) record { bytes = simp add-sub-cancel-left; block = refl; from = refl }
+returns-4 c =
+    let k = c .before .before .before .before in
+    let a = start k .args in
+    let here = part-here (a .n) (a .r) (a .v) (a .file .now) (a .line) (k .before .if1 .left) (k .key-length .result) (k .key-length .ensures .0 (a .n)) (omega arith) (omega arith) in
+    rw (← here) record { bytes = simp (add-sub-cancel-left, c .before .code-at .ensures); block = refl; from = ap (λ at. at + ptr (a .file) .1) (c .before .code-at .ensures) }
 
-add-from : tie.Need-add-from
-add-from c = search needs
+code-at-requires : tie.Need-code-at-requires
+code-at-requires c κs = let k = keyed (start (c .before .before)) (c .before .before .before .if1 .left) in (k .room, omega (arith, k .few))
 
 add-to : tie.Need-add-to
 add-to c = search needs
@@ -73,7 +85,7 @@ part-result-start-4 : tie.Need-part-result-start-4
 part-result-start-4 c = search needs
 
 part-result-end-4 : tie.Need-part-result-end-4
-part-result-end-4 c = let b = c .before .before in let a = start b .args in let k = framed-keyed (a .n) (a .r) (a .v) (a .file .now) (start b .pre) (a .line) (omega arith) in omega (arith, k .long, b .before .key-at .ensures)
+part-result-end-4 c = let k = c .before .before .before in omega (arith, keyed (start k) (k .before .if1 .left) .long)
 
 pub key-part-spec : {M : Type 1} → statement M
 key-part-spec =
@@ -83,9 +95,7 @@ key-part-spec =
     part-result-start
     part-result-end
     returns
-    key-at-requires
-    add-byte
-    byte-requires
+    key-length-requires
     sub-result-2
     part-result-start-2
     part-result-end-2
@@ -94,7 +104,7 @@ key-part-spec =
     part-result-start-3
     part-result-end-3
     returns-3
-    add-from
+    code-at-requires
     add-to
     sub-result-4
     part-result-start-4
