@@ -18,12 +18,6 @@ Inv-loop file at r from k c₀ i₀ c i = (i ≤ k) × (c ≡ count i (λ j. ass
 abbrev μ-loop : tie.MeasureT-loop
 μ-loop file at r from k c₀ i₀ c i = k - i
 
-returns : tie.Need-returns Inv-loop μ-loop
-returns c =
-    let a = c .before .before .before .args in
-    let e : c .before .loop .i ≡ a .k = omega arith in
-    (c .before .loop .inv .1 ∙ ap (λ i. count i (λ j. assigned (a .r) (valueIn (bytesFrom (a .file .now) (a .at)) (a .from + j)))) e, omega arith)
-
 loop-holds : tie.Need-loop-holds Inv-loop μ-loop
 loop-holds c = (omega arith, sym (sum-none _), omega arith)
 
@@ -56,6 +50,12 @@ loop-again c =
       ⊎-elim (λ w. omega (arith, assigned-counts (a .r) value (a .from) i (v .value .result) (v .value .ensures .0) (w .0 .taken))) (λ w. omega (arith, unassigned-counts-not (a .r) value (a .from) i (v .value .result) (v .value .ensures .0) (w .0 .left))) (c .if1 .came),
       ⊎-elim (λ w. omega arith) (λ w. omega arith) (c .if1 .came),
     )
+
+returns : tie.Need-returns Inv-loop μ-loop
+returns c =
+    let a = c .before .before .before .args in
+    let e : c .before .loop .i ≡ a .k = omega arith in
+    (c .before .loop .inv .1 ∙ ap (λ i. count i (λ j. assigned (a .r) (valueIn (bytesFrom (a .file .now) (a .at)) (a .from + j)))) e, omega arith)
 
 pub count-assigned-spec : {M : Type 1} → statement M
 count-assigned-spec = tie.close (tie.spec Inv-loop μ-loop loop-holds add-value value-requires add-c add-i loop-less loop-again returns)
