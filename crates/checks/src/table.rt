@@ -2,8 +2,9 @@
 use directory::Opening;
 use directory::WRONG_RANK;
 use directory::WRONG_VALUE;
+use records::offsets::BLOCK;
+use records::offsets::PER_BYTE;
 use records::offsets::values_at;
-use records::values::BLOCK;
 use records::values::count_assigned;
 use records::values::rank;
 use records::values::value;
@@ -43,7 +44,7 @@ fn spare_set(file: &[u8], r: usize, v: usize) -> bool
 {
     let m = r * v;
     let at = values_at(r);
-    let end = 4 * ((m + 3) / 4);
+    let end = PER_BYTE * ((m + (PER_BYTE - 1)) / PER_BYTE);
     let mut x = m;
     while x < end {
         if value(file, at, x) != 0 {

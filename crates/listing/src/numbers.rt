@@ -7,14 +7,18 @@ ghost use lib.ListN.{length};
 ghost use Rattle.counting.specs.Wrote.{Wrote};
 ghost use Rattle.directory.specs.Listing.{digit as digitOf, decimal, hex};
 
+const TEN: usize = 10;
+
+const SIXTEEN: usize = 16;
+
 fn digit(d: usize) -> u8
     requires { ⌜ d < 16 ⌝ }
     ensures { λ b. ⌜ b ≡ digitOf d ⌝ }
 {
-    if d < 10 {
+    if d < TEN {
         b'0' + d as u8
     } else {
-        b'a' + (d - 10) as u8
+        b'a' + (d - TEN) as u8
     }
 }
 
@@ -30,11 +34,11 @@ pub fn put_decimal(text: &mut [u8], at: usize, x: usize) -> usize
     requires { ⌜ at + length (decimal x) ≤ length (now text) ⌝ }
     ensures { λ to. ⌜ Wrote at (decimal x) (now (text .entry)) (now (text .exit)) to ⌝ }
 {
-    if x < 10 {
+    if x < TEN {
         return put_digit(text, at, x);
     }
-    let last = put_decimal(text, at, x / 10);
-    put_digit(text, last, x % 10)
+    let last = put_decimal(text, at, x / TEN);
+    put_digit(text, last, x % TEN)
 }
 
 // A byte in two digits.
@@ -42,8 +46,8 @@ fn put_pair(text: &mut [u8], at: usize, b: u8) -> usize
     requires { ⌜ at + 2 ≤ length (now text) ⌝ }
     ensures { λ to. ⌜ Wrote at (digitOf (b / 16) ∷ digitOf (b % 16) ∷ []) (now (text .entry)) (now (text .exit)) to ⌝ }
 {
-    let second = put_digit(text, at, b as usize / 16);
-    put_digit(text, second, b as usize % 16)
+    let second = put_digit(text, at, b as usize / SIXTEEN);
+    put_digit(text, second, b as usize % SIXTEEN)
 }
 
 pub fn put_hex(text: &mut [u8], at: usize, code: &[u8]) -> usize

@@ -5,8 +5,8 @@ pub mod values; // values.rt: the values, the rank entries, and the line of a ve
 mod vertices; // vertices.rt: the vertices of a code, and its landing vertex
 pub mod codes; // codes.rt: the codes of the KY records
 
+use crate::offsets::BLOCK;
 use crate::offsets::values_at;
-use crate::values::BLOCK;
 use crate::values::line;
 use crate::values::value;
 use crate::vertices::landing;

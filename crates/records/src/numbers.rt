@@ -5,6 +5,9 @@ ghost use lib.ListN.{length};
 ghost use Rattle.counting.specs.Widths.{oneByte, twoBytes};
 ghost use Rattle.directory.specs.Bytes.{byteAt, twoAt, marked as markedAt};
 
+// So many numbers does a byte hold.
+const BYTE: usize = 256;
+
 // A byte, as a number.
 pub fn byte(file: &[u8], at: usize) -> usize
     requires { ⌜ at < length (now file) ⌝ }
@@ -18,7 +21,7 @@ pub fn two(file: &[u8], at: usize) -> usize
     requires { ⌜ at + 1 < length (now file) ⌝ }
     ensures { λ x. ⌜ (x ≡ twoAt (now (file .entry)) at) × (x < twoBytes) ⌝ }
 {
-    byte(file, at) + 256 * byte(file, at + 1)
+    byte(file, at) + BYTE * byte(file, at + 1)
 }
 
 // Whether the mark of these two letters stands at an offset.

@@ -1,7 +1,10 @@
 // The values of the vertices, two bits each, the rank entries, and the line of a vertex.
 use crate::numbers::byte;
 use crate::numbers::two;
+use crate::offsets::BLOCK;
 use crate::offsets::MARK;
+use crate::offsets::NUMBER;
+use crate::offsets::PER_BYTE;
 use crate::offsets::ranks_at;
 use crate::offsets::values_at;
 ghost use mathlib.Core.Path.{_≡_};
@@ -17,16 +20,18 @@ ghost use Rattle.directory.specs.Values.{valueIn, rankIn, lineIn};
 ghost use Rattle.directory.specs.File.{tableIn};
 ghost use Rattle.records.specs.Standing.{Tabled, bytesFrom};
 
-// Vertices to a rank entry.
-pub const BLOCK: usize = 64;
+// The bits of a value, and the largest.
+const BITS: usize = 2;
+
+const LARGEST: usize = 3;
 
 // The two bits of place x, where the mark of GV stands at `at`.
 pub fn value(file: &[u8], at: usize, x: usize) -> usize
     requires { ⌜ at + (markLength + x / 4) < length (now file) ⌝ }
     ensures { λ k. ⌜ (k ≡ valueIn (bytesFrom (now (file .entry)) at) x) × (k < 4) ⌝ }
 {
-    let four = byte(file, at + (MARK + x / 4));
-    (four >> (2 * (x % 4))) & 3
+    let four = byte(file, at + (MARK + x / PER_BYTE));
+    (four >> (BITS * (x % PER_BYTE))) & LARGEST
 }
 
 // How many of the k values from place `from` on are assigned: other than r.
@@ -51,7 +56,7 @@ pub fn rank(file: &[u8], r: usize, v: usize, b: usize) -> usize
     requires entry { ⌜ b < blocks (r * v) ⌝ }
     ensures { λ k. ⌜ ((n : ℕ) → k ≡ rankIn (headed n r v) (tableIn HD (headed n r v) (now (file .entry))) b) × (k < twoBytes) ⌝ }
 {
-    two(file, ranks_at(r, v) + (MARK + 2 * b))
+    two(file, ranks_at(r, v) + (MARK + NUMBER * b))
 }
 
 // The line of an assigned vertex y: the rank entry of its block, and the assigned vertices from the start of the block up to y.

@@ -3,6 +3,7 @@ use crate::numbers::byte;
 use crate::numbers::two;
 use crate::offsets::HEADER;
 use crate::offsets::MARK;
+use crate::offsets::NUMBER;
 use crate::offsets::POSITIONS;
 use crate::offsets::values_at;
 use crate::values::value;
@@ -25,11 +26,11 @@ fn code_sum(file: &[u8], code: &[u8], j: usize) -> u32
     requires { ⌜ Weighed (now file) (now code) j ⌝ }
     ensures { λ s. ⌜ s ≡ codeSum HD (weightOf (now (file .entry))) (now (code .entry)) j ⌝ }
 {
-    let from = HEADER + (MARK + 2 * (POSITIONS * j));
+    let from = HEADER + (MARK + NUMBER * (POSITIONS * j));
     let mut s: u32 = 0;
     let mut i = 0;
     while i < code.len() {
-        let weight = two(file, from + 2 * i) as u32;
+        let weight = two(file, from + NUMBER * i) as u32;
         s += byte(code, i) as u32 * weight;
         i += 1;
     }

@@ -25,6 +25,9 @@ mul-m c = search needs
 values-at-requires : tie.Need-values-at-requires Inv-loop μ-loop
 values-at-requires c κs = search needs
 
+sub-end : tie.Need-sub-end Inv-loop μ-loop
+sub-end c = search needs
+
 add-end : tie.Need-add-end Inv-loop μ-loop
 add-end c = search needs
 
@@ -64,6 +67,7 @@ spare-set-spec =
     μ-loop
     mul-m
     values-at-requires
+    sub-end
     add-end
     mul-end
     loop-holds
