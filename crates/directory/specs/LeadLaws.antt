@@ -37,7 +37,7 @@ module _ (h : Header) (T : ℕ → ℕ) (x : ℕ → ℕ) where
   -- a landing vertex that is unassigned leads nowhere
   pub lead-nowhere : valueIn T y ≡ unassigned r → leadOf h T x ≡ Nowhere
   unfolding leadOf
-  lead-nowhere e = rw (eq-eqb _ _ e)
+  lead-nowhere e = ap (λ here. cond here (cond (ltb (lineIn h T y) n) (ToLine (lineIn h T y)) (PastLast (y / blockSize))) Nowhere) (ap not (eq-eqb (valueIn T y) r e))
 
   -- a line that it leads to is below n, whatever the bytes
   pub lead-below : (l : ℕ) → leadOf h T x ≡ ToLine l → l < n

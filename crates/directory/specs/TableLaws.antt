@@ -1,11 +1,11 @@
 -- The records GV and RK, of any bytes T from the mark of GV on: the refusals 12 and 13 as facts, and the line that right rank entries give. Assumes nothing.
-use mathlib.Core.Path.{_≡_, sym, ap}
+use mathlib.Core.Path.{_≡_, sym, ap, _∙_}
 use mathlib.Core.Bool.{true, not}
-use Prim.Native.Nat.{ℕ, _+_, _-_, _*_, _/_, _≤_, _<_}
+use Prim.Native.Nat.{ℕ, _+_, _-_, _*_, _/_, _%_, _≤_, _<_}
 use native.Mathlib.Omega.{arith}
 use borrow.Author.Tests.{ltb-false, le-ltb, eqb-true, eq-eqb, not-false}
 use Rattle.counting.specs.TestLaws.{or-neither, or-neither-second, or-none}
-use Rattle.counting.specs.Below.{any}
+use Rattle.counting.specs.Below.{count, any}
 use Rattle.counting.specs.CountLaws.{rank-less}
 use Rattle.counting.specs.SearchLaws.{any-none, any-false}
 use Rattle.graph.specs.RankLaws.{below-block}
@@ -55,7 +55,7 @@ module _ (h : Header) (T : ℕ → ℕ) where
   -- with right rank entries the line that looking up computes is the number of assigned vertices below, ..
   pub line-below : ((b : ℕ) → b < rankEntries h → rankIn h T b ≡ rankEntry r (valueIn T) b) → (y : ℕ) → y < vertexCount h → lineIn h T y ≡ assignedBelow r (valueIn T) y
   unfolding lineIn
-  line-below ranks y l = rw (ranks (y / blockSize) (omega arith)) (sym (below-block r (valueIn T) y))
+  line-below ranks y l = ap (λ k. k + count (y % blockSize) (λ i. assigned r (valueIn T (blockSize * (y / blockSize) + i)))) (ranks (y / blockSize) (omega arith)) ∙ sym (below-block r (valueIn T) y)
 
   -- .. which is below n where the vertex is assigned and n are in all
   pub line-few : assignedBelow r (valueIn T) (vertexCount h) ≡ n → (y : ℕ) → y < vertexCount h → assigned r (valueIn T y) ≡ true → assignedBelow r (valueIn T) y < n
