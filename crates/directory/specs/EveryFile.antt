@@ -91,9 +91,6 @@ module _ (f : List ℕ) where
 
   -- ---- the paper's numbers
 
-  some-number : (k p : ℕ) → openOf f ≡ opening.Refused k p → 1 ≤ k
-  some-number k p e = omega (arith, open-numbers (kindOf f) (headerIn f) f (opening-is-refused-by-the-first-that-applies k p .0 e) .0)
-
   -- the numbers of an answer are the paper's
   pub the-numbers-of-the-header : openingNumbers (headerOf f) ≡ headerNumbersOf f
   the-numbers-of-the-header = header-paper f
@@ -107,6 +104,9 @@ module _ (f : List ℕ) where
   -- a refusal of opening has a number from 9 to 15
   pub opening-refuses-with-9-to-15 : (k p : ℕ) → openOf f ≡ opening.Refused k p → (9 ≤ k) × (k ≤ 15)
   opening-refuses-with-9-to-15 k p e = open-numbers (kindOf f) (headerIn f) f (opening-is-refused-by-the-first-that-applies k p .0 e)
+
+  some-number : (k p : ℕ) → openOf f ≡ opening.Refused k p → 1 ≤ k
+  some-number k p e = omega (arith, opening-refuses-with-9-to-15 k p e .0)
 
   -- so number 0 is given exactly if the file opens, with the place 0 and its n, r and v
   pub number-0-exactly-if-it-opens : (n r v : ℕ) → (openNumbersOf f ≡ (0, 0, n, r, v)) ↔ (openOf f ≡ opening.Opened n r v)

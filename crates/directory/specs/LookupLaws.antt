@@ -48,6 +48,14 @@ module _ (K : Kind) (h : Header) (f t : List ℕ) where
   unfolding found
   found-here e q = rw (e, q)
 
+  pub found-nowhere : {d : Lead} → d ≡ Nowhere → found K h f t d ≡ Unknown
+  unfolding found
+  found-nowhere e = rw e
+
+  pub found-other : {d : Lead} {l : ℕ} → d ≡ ToLine l → holdsCode K h f t l ≡ false → found K h f t d ≡ Unknown
+  unfolding found
+  found-other e q = rw (e, q)
+
   pub found-past : (d : Lead) (k p : ℕ) → found K h f t d ≡ Refused k p → (k ≡ 13) × (d ≡ PastLast p)
   unfolding found
   found-past Nowhere k p e = absurd (let z : _≡_ {A = ℕ} 0 1 = cc in omega arith)
@@ -61,6 +69,11 @@ module _ (K : Kind) (h : Header) (f t : List ℕ) where
   pub past-found : {d : Lead} {k p : ℕ} → k ≡ 13 → d ≡ PastLast p → found K h f t d ≡ Refused k p
   unfolding found
   past-found a e = rw (e, a)
+
+  -- a line that it leads to is below n
+  pub lead-in-below : (l : ℕ) → leadIn K h f t ≡ ToLine l → l < h .n
+  unfolding leadIn
+  lead-in-below = lead-below h (tableIn K h f) (vertex K (h .v) (weightIn K h f) t)
 
 -- ---- the answer
 
@@ -82,8 +95,7 @@ module _ (K : Kind) (f t : List ℕ) where
 
   -- such a line is below n
   pub lookup-below : (l : ℕ) → lookup K f t ≡ At l → l < h .n
-  unfolding leadIn
-  lookup-below l e = lead-below h (tableIn K h f) (vertex K (h .v) (weightIn K h f) t) l (lookup-line l .0 e .1)
+  lookup-below l e = lead-in-below K h f t l (lookup-line l .0 e .1)
 
   -- a refusal exactly if the table gives it, or no row applies, the number is 13 and the code leads past the last line by that rank entry
   pub lookup-refused : (k p : ℕ) → (lookup K f t ≡ Refused k p) ↔ (Given (lookupRefusals K h f t) k p ⊎ (NoneApplies (lookupRefusals K h f t) × (k ≡ 13) × (leadIn K h f t ≡ PastLast p)))

@@ -7,7 +7,7 @@ use Prim.Native.Nat.{ℕ, _*_, _≤_, _<_}
 use native.Mathlib.Omega.{arith}
 use lib.Dec.{leb}
 use lib.ListN.{length}
-use borrow.Author.Tests.{eq-eqb, ne-eqb, lt-ltb, le-ltb, leb-false, leb-true}
+use borrow.Author.Tests.{ne-eqb, lt-ltb, le-ltb, leb-false, leb-true}
 use Rattle.counting.specs.TestLaws.{never-true}
 use Rattle.directory.specs.declared.Opening.the-variants.{Opened, Refused}
 use Rattle.directory.specs.Sizes.{Header, headed, mostVertices, mostCodes, headerAllowed}
@@ -18,6 +18,7 @@ use Rattle.directory.specs.File.{headerLength, headerIn}
 use Rattle.directory.specs.Whole.{Sized}
 use Rattle.directory.specs.WholeLaws.{sized-true, true-sized}
 use Rattle.directory.specs.Opening.{headerRefusals, openedUnless, header}
+use Rattle.directory.specs.OpeningLaws.{header-opened}
 use Rattle.directory.specs.Calls.{lengthOf, headerOf}
 use Rattle.records.specs.Standing.{Room, keyFrom}
 use Rattle.records.specs.StandingLaws.{length-from, part-most}
@@ -76,5 +77,5 @@ module _ (f : List ℕ) where
         heading-length d = rw (le-ltb (length f) headerLength long, mark, e, right, ne-eqb _ _ (λ i. d (i ∙ sym (length-from n r v))))
 
         pub heading-is : length f ≡ keyFrom r v n → Opened n r v ≡ headerOf f
-        unfolding headerOf header openedUnless headerRefusals first
-        heading-is i = rw (le-ltb (length f) headerLength long, mark, e, right, eq-eqb _ _ (i ∙ length-from n r v))
+        unfolding headerOf
+        heading-is i = sym (header-opened HD f n r v .1 (e, record { firstMark = mark; sizes = sized-true (headed n r v) right; size = i ∙ length-from n r v }))

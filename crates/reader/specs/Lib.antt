@@ -1,4 +1,4 @@
 pub mod HeadingLaws
 pub mod AfterHeader
-pub mod FindLaws
+pub mod PartLaws
 pub mod Papers

@@ -1,12 +1,11 @@
 // The sizes that document 01 allows, and the length of a file.
+use records::offsets::MOST_PARTS;
 use records::offsets::key_at;
 ghost use mathlib.Core.Path.{_≡_};
 ghost use Rattle.directory.specs.Sizes.{headed, headerAllowed};
 ghost use Rattle.directory.specs.Calls.{lengthOf};
 
 const FEWEST_PARTS: usize = 2;
-
-const MOST_PARTS: usize = 3;
 
 const MOST_VERTICES: usize = 4096;
 

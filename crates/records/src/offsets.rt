@@ -15,6 +15,9 @@ pub const NUMBER: usize = 2;
 // The most bytes of a code; so many weights belong to each part.
 pub const POSITIONS: usize = 32;
 
+// The most parts, and so the most vertices of a code.
+pub const MOST_PARTS: usize = 3;
+
 // Values to a byte, and vertices to a rank entry.
 pub const PER_BYTE: usize = 4;
 

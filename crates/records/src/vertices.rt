@@ -3,6 +3,7 @@ use crate::numbers::byte;
 use crate::numbers::two;
 use crate::offsets::HEADER;
 use crate::offsets::MARK;
+use crate::offsets::MOST_PARTS;
 use crate::offsets::NUMBER;
 use crate::offsets::POSITIONS;
 use crate::offsets::values_at;
@@ -17,9 +18,6 @@ ghost use Rattle.directory.specs.Kind.{HD, codeSum, vertex as vertexOf};
 ghost use Rattle.directory.specs.Values.{valueIn};
 ghost use Rattle.directory.specs.Whole.{landingOf};
 ghost use Rattle.records.specs.Standing.{Tabled, Weighed, mostBytes, weightOf, bytesFrom, valuesFrom};
-
-// The most parts.
-const PARTS: usize = 3;
 
 // The sum of a code for part j.
 fn code_sum(file: &[u8], code: &[u8], j: usize) -> u32
@@ -73,7 +71,7 @@ pub fn landing(file: &[u8], r: usize, v: usize, code: &[u8]) -> usize
     requires short { ⌜ length (now code) ≤ mostBytes ⌝ }
     ensures { λ y. ⌜ ((n : ℕ) → y ≡ landingOf HD (headed n r v) (now (file .entry)) (now (code .entry))) × (y < r * v) ⌝ }
 {
-    let mut vertices = [0usize; PARTS];
+    let mut vertices = [0usize; MOST_PARTS];
     let s = name_vertices(file, r, v, code, &mut vertices);
     vertices[s % r]
 }

@@ -2,7 +2,6 @@
 use mathlib.Core.Path.{_≡_, refl, ap}
 use mathlib.Core.Logic.{_⊎_, inl, inr}
 use Prim.Native.Nat.{_+_, _<_}
-use native.Mathlib.Nat.{add-sub-cancel-left}
 use native.Mathlib.Omega.{arith}
 use denote.Ref.{ptr}
 use Rattle.directory.specs.Sizes.{headed}
@@ -10,7 +9,7 @@ use Rattle.directory.specs.Kind.{HD}
 use Rattle.directory.specs.Showing.{emptyPart, keyPart}
 use Rattle.records.specs.Standing.{Keyed, mostBytes}
 use Rattle.records.specs.FramedLaws.{framed-keyed}
-use Rattle.reader.specs.FindLaws.{part-past, part-wrong, part-here}
+use Rattle.reader.specs.PartLaws.{part-past, part-wrong, part-here, part-bytes}
 use borrow.Author.Needs.{needs}
 use Rattle.reader.proofs.showing.key_part.Statement.{statement}
 use Rattle.reader.proofs.showing.key_part.Tie as tie
@@ -70,7 +69,7 @@ returns-4 c =
     let k = c .before .before .before .before in
     let a = start k .args in
     let here = part-here (a .n) (a .r) (a .v) (a .file .now) (a .line) (k .before .if1 .left) (k .key-length .result) (k .key-length .ensures .0 (a .n)) (omega arith) (omega arith) in
-    rw (← here) record { bytes = simp (add-sub-cancel-left, c .before .code-at .ensures); block = refl; from = ap (λ at. at + ptr (a .file) .1) (c .before .code-at .ensures) }
+    rw (← here) record { bytes = part-bytes (a .n) (a .r) (a .v) (a .file .now) (a .line) (k .before .if1 .left) (k .key-length .result) (k .key-length .ensures .0 (a .n)) (c .before .code-at .result) (c .before .code-at .ensures); block = refl; from = ap (λ at. at + ptr (a .file) .1) (c .before .code-at .ensures) }
 
 code-at-requires : tie.Need-code-at-requires
 code-at-requires c κs = let k = keyed (start (c .before .before)) (c .before .before .before .if1 .left) in (k .room, omega (arith, k .few))
