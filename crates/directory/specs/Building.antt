@@ -26,6 +26,9 @@ pub record Lent : Type 0 where
   pub weights : List ℕ
   pub buffer : List ℕ
 
+abbrev pub lent : List ℕ → List ℕ → ℕ → ℕ → List ℕ → List ℕ → Lent
+lent run ends r v weights buffer = record { run = run; ends = ends; r = r; v = v; weights = weights; buffer = buffer }
+
 module _ (K : Kind) (I : Lent) where
   open Kind K using (positions)
   open Lent I using (run, ends, r, v, weights, buffer)
@@ -69,20 +72,29 @@ module _ (K : Kind) (I : Lent) where
 
   -- ---- the answer
 
-  -- 1 to 7, which need no graph
-  unfoldable pub inputRefusals : List Refusal
-  inputRefusals =
+  -- 1 to 6, of what is lent
+  unfoldable pub lentRefusals : List Refusal
+  lentRefusals =
       record { number = 1; applies = not (arityAllowed r); place = 0 }
       ∷ record { number = 2; applies = not (partAllowed r v); place = 0 }
       ∷ record { number = 3; applies = not (eqb (length weights) (positions * r)); place = 0 }
       ∷ record { number = 4; applies = not (codesAllowed n); place = 0 }
       ∷ record { number = 5; applies = any n (wrongCode positions run ends) || runMissed run ends; place = lowest n (wrongCode positions run ends) }
       ∷ record { number = 6; applies = ltb (length buffer) lengthNeeded; place = lengthNeeded }
-      ∷ record { number = 7; applies = any n (repeated codeOf); place = lowest n (repeated codeOf) }
       ∷ []
 
+  -- 7 and 8, of the codes and of their graph
+  abbrev repeatedCode : Refusal
+  repeatedCode = record { number = 7; applies = any n (repeated codeOf); place = lowest n (repeated codeOf) }
+
+  abbrev cyclic : Refusal
+  cyclic = record { number = 8; applies = not (eqb (numberLeft graph) 0); place = numberLeft graph }
+
+  unfoldable pub graphRefusals : List Refusal
+  graphRefusals = repeatedCode ∷ cyclic ∷ []
+
   unfoldable pub buildRefusals : List Refusal
-  buildRefusals = inputRefusals ++ record { number = 8; applies = not (eqb (numberLeft graph) 0); place = numberLeft graph } ∷ []
+  buildRefusals = lentRefusals ++ graphRefusals
 
   unfoldable pub build : Built
   build = first Done Refused buildRefusals

@@ -42,6 +42,10 @@ lookupOf f t = lookingUp.lookup (kindOf f) f t
 
 -- ---- the same in the paper's numbers
 
+-- number and place
+unfoldable pub buildNumbersOf : building.Lent → ℕ × ℕ
+buildNumbersOf I = first (0, 0) (λ number place. (number, place)) (building.buildRefusals HD I)
+
 -- by a table: number, place, n, r and v; success is 0, and so is its place; a refusal leaves n, r and v 0
 unfoldable pub openNumbersBy : List Refusal → Header → ℕ × ℕ × ℕ × ℕ × ℕ
 openNumbersBy table h = first (0, 0, h .n, h .r, h .v) (λ number place. (number, place, 0, 0, 0)) table

@@ -1,7 +1,7 @@
 -- Codes and code lists: document 01, "Sizes". A code is a list of bytes; a code list is lent as one run of bytes and a list of end positions. Assumes nothing.
 use mathlib.Core.Bool.{Bool, not, _||_}
 use mathlib.Core.List.{List}
-use Prim.Native.Nat.{ℕ, zero, suc, _-_}
+use Prim.Native.Nat.{ℕ, zero, suc, _+_, _-_, _≤_, _<_}
 use lib.Dec.{eqb, ltb}
 use lib.ListN.{length, getD, take, drop}
 use Rattle.counting.specs.Below.{any}
@@ -34,3 +34,11 @@ runMissed run ends = not (eqb (start ends (length ends)) (length run))
 -- code k equals an earlier one
 unfoldable pub repeated : (ℕ → List ℕ) → ℕ → Bool
 repeated codes k = any k (λ i. same (codes i) (codes k))
+
+-- ---- the same as a fact
+
+-- code k runs within the run, and has 1 to `most` bytes
+pub record Runs (most : ℕ) (run ends : List ℕ) (k : ℕ) : Type 0 where
+  pub some : start ends k < end ends k
+  pub short : end ends k ≤ start ends k + most
+  pub inside : end ends k ≤ length run

@@ -13,6 +13,7 @@ pub mod GraphLaws
 pub mod TableLaws
 pub mod LeadLaws
 pub mod Whole
+pub mod Lending
 pub mod Opening
 pub mod WholeLaws
 pub mod OpeningLaws

@@ -46,7 +46,24 @@ pub enum PlaceMeaning {
     Line,
 }
 
-// The refusals of a file and of a code that is asked for, by document 01's numbers.
+// The refusals of building, by document 01's numbers.
+pub const WRONG_ARITY: u8 = 1;
+
+pub const WRONG_PART_SIZE: u8 = 2;
+
+pub const WRONG_WEIGHTS: u8 = 3;
+
+pub const TOO_MANY_CODES: u8 = 4;
+
+pub const WRONG_LIST: u8 = 5;
+
+pub const SHORT_BUFFER: u8 = 6;
+
+pub const REPEATED_CODE: u8 = 7;
+
+pub const CYCLIC: u8 = 8;
+
+// Those of a file and of a code that is asked for.
 pub const WRONG_SIZE: u8 = 9;
 
 pub const WRONG_MARK: u8 = 10;
