@@ -1,13 +1,16 @@
--- The numbers of bytes that a code may have, as facts. Assumes nothing.
+-- The numbers of bytes that a code may have, and those of a code of a list, as facts. Assumes nothing.
 use mathlib.Core.Path.{_≡_}
 use mathlib.Core.Logic.{_⊎_, inl, inr, ⊎-elim, _↔_}
 use mathlib.Core.Bool.{true, false}
-use Prim.Native.Nat.{ℕ, _≤_, _<_}
+use mathlib.Core.List.{List}
+use Prim.Native.Nat.{ℕ, _-_, _≤_, _<_}
 use native.Mathlib.Omega.{arith}
 use lib.Dec.{eqb, ltb}
+use lib.ListN.{length, drop, length-drop}
+use lib.Seq.{length-take-le}
 use borrow.Author.Tests.{eqb-true, eqb-false, eq-eqb, ne-eqb, ltb-true, ltb-false, lt-ltb, le-ltb}
 use Rattle.counting.specs.TestLaws.{or-either, or-second, or-neither, or-neither-second, or-none}
-use Rattle.directory.specs.Codes.{wrongLength}
+use Rattle.directory.specs.Codes.{start, end, code, wrongLength, Runs}
 
 pub length-wrong : (most k : ℕ) → (wrongLength most k ≡ true) ↔ ((k ≡ 0) ⊎ (most < k))
 unfolding wrongLength
@@ -22,3 +25,7 @@ length-right most k = (
   λ t. let d = eqb-false k 0 (or-neither (eqb k 0) (ltb most k) t) in (omega arith, ltb-false most k (or-neither-second (eqb k 0) (ltb most k) t)),
   λ w. or-none (ne-eqb k 0 (omega arith)) (le-ltb most k (w .1)),
 )
+
+pub code-length : (most : ℕ) (run ends : List ℕ) (k : ℕ) → Runs most run ends k → length (code run ends k) ≡ end ends k - start ends k
+unfolding code
+code-length most run ends k c = length-take-le (end ends k - start ends k) (drop (start ends k) run) (rw (length-drop (start ends k) run) (omega (arith, c .inside)))
