@@ -10,6 +10,7 @@ pub mod Leads
 pub mod File
 pub mod Building
 pub mod GraphLaws
+pub mod RepeatedLaws
 pub mod TableLaws
 pub mod LeadLaws
 pub mod Whole
@@ -34,6 +35,7 @@ pub mod BytesLaws
 pub mod ValueLaws
 pub mod FileLaws
 pub mod FileTableLaws
+pub mod SameFileLaws
 pub mod Computing
 pub mod Sayings
 pub mod Cases

@@ -1,19 +1,21 @@
 -- What is left over is the largest group; where nothing is left over there is none. Assumes nothing.
-use mathlib.Core.Path.{_≡_, refl}
+use mathlib.Core.Path.{_≡_, refl, sym, ap}
 use mathlib.Core.Logic.{⊎-elim, _≢_, _↔_}
-use mathlib.Core.Bool.{Bool, true}
+use mathlib.Core.Bool.{Bool, true, _||_}
 use mathlib.Core.List.{List, _∷_}
 use Prim.Native.Nat.{ℕ, _≤_, _<_}
 use native.Mathlib.Omega.{arith}
-use Rattle.counting.specs.TestLaws.{eq?}
-use Rattle.counting.specs.CountLaws.{bit-self, bit-other, count-mono}
+use lib.Dec.{eqb}
+use borrow.Author.Tests.{eqb-true, eq-eqb}
+use Rattle.counting.specs.TestLaws.{eq?, lt?, or-either, or-second}
+use Rattle.counting.specs.CountLaws.{bit-self, bit-other, count-mono, count-has}
 use Rattle.counting.specs.Lists.{occurrences}
 use Rattle.counting.specs.OccurrenceLaws.{occurrences-back}
-use Rattle.graph.specs.Graph.{Graph, degreeIn, size}
+use Rattle.graph.specs.Graph.{Graph, names, degreeIn, size}
 use Rattle.graph.specs.Peeling.{unremoved, leftOver, numberLeft}
 use Rattle.graph.specs.Group.{Group}
 use Rattle.graph.specs.Run.{Reached, start, step}
-use Rattle.graph.specs.DegreeLaws.{unremoved-absent, absent-unremoved, names-at, degree-mono, degree-has}
+use Rattle.graph.specs.DegreeLaws.{unremoved-absent, absent-unremoved, names-at, degree-mono, degree-has, degree-one}
 use Rattle.graph.specs.Moment.{Sound}
 use Rattle.graph.specs.PeelingLaws.{reached-peeled, removal-reached, removal-peeled}
 
@@ -68,3 +70,29 @@ module _ (G : Graph) where
 
   pub refused-exactly : (1 ≤ numberLeft G) ↔ ((S : ℕ → Bool) × Group G S)
   refused-exactly = (λ h. (leftOver G, left-group h), λ w. omega (arith, largest-bound (w .0) (w .1), w .1 .notEmpty))
+
+  -- ---- two edges that name the same vertices are a group
+
+  module _ (e f : ℕ) (d : e ≢ f) (l : e < edges) (m : f < edges) (same : (j : ℕ) → j < arity → vertexOf e j ≡ vertexOf f j) where
+    abbrev both : ℕ → Bool
+    both x = eqb x e || eqb x f
+
+    first-in : both e ≡ true
+    first-in = ap (λ b. b || eqb e f) (eq-eqb e e refl)
+
+    second-in : both f ≡ true
+    second-in = or-second (eqb f e) _ (eq-eqb f f refl)
+
+    -- a vertex that one of them names, both name
+    both-name : (x : ℕ) → names G e x ≡ true → names G f x ≡ true → 2 ≤ degreeIn G both x
+    both-name x a b = ⊎-elim (λ (h : degreeIn G both x < 2). absurd (d (degree-one G both x e f (omega arith) l m first-in second-in a b))) (λ (h : 2 ≤ degreeIn G both x). h) (lt? (degreeIn G both x) 2)
+
+    named-twice : (x j : ℕ) → x < edges → j < arity → both x ≡ true → 2 ≤ degreeIn G both (vertexOf x j)
+    named-twice x j a b t =
+        ⊎-elim
+        (λ (i : eqb x e ≡ true). rw (eqb-true x e i) (both-name (vertexOf e j) (names-at G e j _ b refl) (names-at G f j _ b (sym (same j b)))))
+        (λ (i : eqb x f ≡ true). rw (eqb-true x f i) (both-name (vertexOf f j) (names-at G e j _ b (same j b)) (names-at G f j _ b refl)))
+        (or-either (eqb x e) (eqb x f) t)
+
+    pub twins-left : 1 ≤ numberLeft G
+    twins-left = refused-exactly .1 (both, record { notEmpty = count-has edges both e l first-in; namedTwice = named-twice })

@@ -1,6 +1,6 @@
 -- What is proved of every graph, of any arity, for readers: each theorem under a line that says it, with the law that proves it. Assumes nothing.
 use mathlib.Core.Path.{_≡_}
-use mathlib.Core.Logic.{_↔_}
+use mathlib.Core.Logic.{_≢_, _↔_}
 use mathlib.Core.Bool.{Bool, true, false}
 use mathlib.Core.List.{List}
 use Prim.Native.Nat.{ℕ, _+_, _≤_, _<_}
@@ -14,7 +14,7 @@ use Rattle.graph.specs.Within.{Within}
 use Rattle.graph.specs.Agree.{Agree}
 use Rattle.graph.specs.Assignment.{assigned, assignedBelow, assign, values, landingVertex, line, edgeOfLine}
 use Rattle.graph.specs.PeelingLaws.{reached-once, reached-room, reached-removal, ever-waiting-removed, ever-waiting-once, left-and-removed}
-use Rattle.graph.specs.GroupLaws.{left-group, group-left, refused-exactly, largest-bound, largest-attained}
+use Rattle.graph.specs.GroupLaws.{left-group, group-left, refused-exactly, largest-bound, largest-attained, twins-left}
 use Rattle.graph.specs.AssignmentLaws.{values-most, drop-unassigned}
 use Rattle.graph.specs.LandingLaws.{landing-inside, landing-assigned, landing-own, assigned-exactly, assigned-number}
 use Rattle.graph.specs.LineLaws.{line-below, line-own, line-onto, edge-line, line-edge}
@@ -22,7 +22,7 @@ use Rattle.graph.specs.WithinLaws.{within-left, within-number, within-no
 use Rattle.graph.specs.AgreeLaws.{agree-left, agree-number, agree-values, agree-line, agree-edge}
 
 module _ (G : Graph) where
-  open Graph G using (edges, arity, vertices)
+  open Graph G using (edges, arity, vertices, vertexOf)
 
   -- ---- groups and the number left
 
@@ -45,6 +45,10 @@ module _ (G : Graph) where
   -- and some group has as many
   pub the-largest-is-attained : 1 ≤ numberLeft G → (S : ℕ → Bool) × Group G S × (size G S ≡ numberLeft G)
   the-largest-is-attained = largest-attained G
+
+  -- two edges that name the same vertices are never both removed
+  pub edges-with-the-same-vertices-leave-some-over : (e f : ℕ) → e ≢ f → e < edges → f < edges → ((j : ℕ) → j < arity → vertexOf e j ≡ vertexOf f j) → 1 ≤ numberLeft G
+  edges-with-the-same-vertices-leave-some-over = twins-left G
 
   -- ---- the queue
 
