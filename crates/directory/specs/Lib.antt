@@ -5,6 +5,7 @@ pub mod Kind
 pub mod Bytes
 pub mod Refusals
 pub mod RefusalLaws
+pub mod RowLaws
 pub mod Values
 pub mod Leads
 pub mod File
@@ -14,6 +15,10 @@ pub mod TableLaws
 pub mod LeadLaws
 pub mod Whole
 pub mod Lending
+pub mod Conditions
+pub mod LendingLaws
+pub mod BuildingLaws
+pub mod RefusedLaws
 pub mod Opening
 pub mod WholeLaws
 pub mod OpeningLaws
@@ -34,6 +39,7 @@ pub mod BytesLaws
 pub mod ValueLaws
 pub mod FileLaws
 pub mod FileTableLaws
+pub mod BuiltLaws
 pub mod Computing
 pub mod Sayings
 pub mod Cases
