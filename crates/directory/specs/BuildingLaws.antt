@@ -1,6 +1,6 @@
 -- What building gives, as facts: success where no refusal applies, otherwise the first that does, and the buffer in both cases. Assumes nothing.
 use mathlib.Core.Path.{_≡_, sym, ap}
-use mathlib.Core.Logic.{_≢_, _↔_}
+use mathlib.Core.Logic.{_≢_, _↔_, Iff·trans}
 use mathlib.Core.Bool.{not}
 use mathlib.Core.List.{_++_}
 use Prim.Native.Nat.{ℕ}
@@ -33,6 +33,10 @@ module _ (K : Kind) (I : Lent) where
   pub build-refused : (k p : ℕ) → (build K I ≡ Refused k p) ↔ Given (buildRefusals K I) k p
   unfolding build
   build-refused = first-given Done Refused (λ i q k p e. (cc, cc)) done-not-refused (buildRefusals K I)
+
+  -- what the table says of a number, said in other words
+  pub refused-by : {k p : ℕ} {A B : Type 0} → Given (buildRefusals K I) k p ↔ A → A ↔ B → (build K I ≡ Refused k p) ↔ B
+  refused-by {k} {p} row facts = Iff·trans (build-refused k p) (Iff·trans row facts)
 
   -- ---- the buffer afterwards
 

@@ -19,6 +19,7 @@ pub mod Conditions
 pub mod LendingLaws
 pub mod BuildingLaws
 pub mod RefusedLaws
+pub mod CyclicLaws
 pub mod Opening
 pub mod WholeLaws
 pub mod OpeningLaws
@@ -40,6 +41,9 @@ pub mod ValueLaws
 pub mod FileLaws
 pub mod FileTableLaws
 pub mod BuiltLaws
+pub mod WrittenLaws
+pub mod Demands
+pub mod EveryBuild
 pub mod Computing
 pub mod Sayings
 pub mod Cases
