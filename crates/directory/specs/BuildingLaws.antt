@@ -1,29 +1,21 @@
 -- What building gives, as facts: success where no refusal applies, otherwise the first that does, and the buffer in both cases. Assumes nothing.
-use mathlib.Core.Path.{_≡_, sym, ap}
+use mathlib.Core.Path.{_≡_, sym}
 use mathlib.Core.Logic.{_≢_, _↔_, Iff·trans}
-use mathlib.Core.Bool.{not}
 use mathlib.Core.List.{_++_}
 use Prim.Native.Nat.{ℕ}
 use native.Mathlib.Omega.{arith}
-use lib.ListN.{length, drop}
-use borrow.Author.Tests.{eqb-true, eq-eqb, not-false}
-use Rattle.graph.specs.Peeling.{numberLeft}
+use lib.ListN.{drop}
 use Rattle.directory.specs.declared.Built.{Built}
 use Rattle.directory.specs.declared.Built.the-variants.{Done, Refused}
 use Rattle.directory.specs.Kind.{Kind}
 use Rattle.directory.specs.Refusals.{NoneApplies, Given}
-use Rattle.directory.specs.RefusalLaws.{none-left, none-right, none-both, first-none, first-is, first-given, given-first}
-use Rattle.directory.specs.Building.{Lent, graph, fileOf, lengthNeeded, lentRefusals, graphRefusals, buildRefusals, build, bufferAfter}
-use Rattle.directory.specs.Lending.{WithinLimits, Different}
-use Rattle.directory.specs.LendingLaws.{limits, limits-back, different, different-back}
+use Rattle.directory.specs.RefusalLaws.{first-none, first-is, first-given, given-first}
+use Rattle.directory.specs.Building.{Lent, fileOf, lengthNeeded, buildRefusals, build, bufferAfter}
 
 done-not-refused : (k p : ℕ) → _≢_ {A = Built} Done (Refused k p)
 done-not-refused k p e = let z : _≡_ {A = ℕ} 0 1 = cc in omega arith
 
 module _ (K : Kind) (I : Lent) where
-  abbrev n : ℕ
-  n = length (I .ends)
-
   -- ---- the answer
 
   pub build-done : (build K I ≡ Done) ↔ NoneApplies (buildRefusals K I)
@@ -47,26 +39,3 @@ module _ (K : Kind) (I : Lent) where
   pub after-refused : {k p : ℕ} → build K I ≡ Refused k p → bufferAfter K I ≡ I .buffer
   unfolding bufferAfter
   after-refused {k} {p} e = given-first _ _ (build-refused k p .0 e)
-
-  -- ---- success: within the limits, different codes, and nothing left over
-
-  pub done-limits : build K I ≡ Done → WithinLimits K I
-  unfolding buildRefusals
-  done-limits d = limits K I (none-left (lentRefusals K I) _ (build-done .0 d))
-
-  graph-none : build K I ≡ Done → NoneApplies (graphRefusals K I)
-  unfolding buildRefusals
-  graph-none d = none-right (lentRefusals K I) (graphRefusals K I) (build-done .0 d)
-
-  pub done-different : build K I ≡ Done → Different K I
-  unfolding graphRefusals
-  done-different d = different K I (graph-none d .0)
-
-  pub done-nothing : build K I ≡ Done → numberLeft (graph K I) ≡ 0
-  unfolding graphRefusals
-  done-nothing d = eqb-true _ 0 (not-false _ (graph-none d .1 .0))
-
-  -- and back
-  pub done-back : WithinLimits K I → Different K I → numberLeft (graph K I) ≡ 0 → build K I ≡ Done
-  unfolding buildRefusals graphRefusals
-  done-back w d z = build-done .1 (none-both (lentRefusals K I) _ (limits-back K I w) (different-back K I d, (ap not (eq-eqb _ 0 z), tt)))

@@ -20,7 +20,8 @@ use Rattle.directory.specs.Building.{Lent, graph, GroupOfCodes, lentRefu
 use Rattle.directory.specs.Lending.{WithinLimits, Different}
 use Rattle.directory.specs.Conditions.{LargestGroup}
 use Rattle.directory.specs.LendingLaws.{limits, limits-back, different, different-back}
-use Rattle.directory.specs.BuildingLaws.{refused-by, done-nothing, done-back}
+use Rattle.directory.specs.BuildingLaws.{refused-by}
+use Rattle.directory.specs.DoneLaws.{done-nothing, done-back}
 
 module _ (K : Kind) (I : Lent) (p : ℕ) where
   -- some codes are left over, p of them, exactly if the largest group has the size p

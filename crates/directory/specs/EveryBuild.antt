@@ -1,23 +1,38 @@
--- What the refusals 1 to 7 of building say as facts, for readers: each theorem under a line that says it, with the law that proves it. Assumes nothing.
+-- What is proved of every build beside the demands, for readers: its numbers, and what the refusals 1 to 7 say as facts. Assumes nothing.
 use mathlib.Core.Path.{_≡_}
 use mathlib.Core.Logic.{_↔_}
 use mathlib.Core.Bool.{false}
-use Prim.Native.Nat.{ℕ}
+use Prim.Native.Nat.{ℕ, _≤_}
 use lib.ListN.{length}
 use Rattle.counting.specs.Below.{any}
-use Rattle.directory.specs.declared.Built.the-variants.{Refused}
+use Rattle.directory.specs.declared.Built.the-variants.{Done, Refused}
 use Rattle.directory.specs.Codes.{repeated}
 use Rattle.directory.specs.Kind.{HD}
 use Rattle.directory.specs.Refusals.{NoneApplies}
 use Rattle.directory.specs.Building.{Lent, codeOf, lengthNeeded, lentRefusals}
 use Rattle.directory.specs.Lending.{WithinLimits, Different}
 use Rattle.directory.specs.Conditions.{ArityRight, PartRight, WeightsRight, FewCodes, ListRight, RoomEnough, FirstWrong, FirstRepeated}
-use Rattle.directory.specs.Calls.{buildOf}
+use Rattle.directory.specs.Calls.{buildOf, buildNumbersOf}
 use Rattle.directory.specs.LendingLaws.{limits, limits-back, different, different-back}
+use Rattle.directory.specs.NumberLaws.{build-paper, numbers-of-done, numbers-of-refused}
 use Rattle.directory.specs.RefusedLaws.{refused-1, refused-2, refused-3, refused-4, refused-5, refused-6, refused-7}
+use Rattle.directory.specs.Demands.{building-refuses-with-1-to-8}
 
 module _ (I : Lent) where
-  -- ---- none of them
+  -- ---- the paper's numbers
+
+  some-number : (k p : ℕ) → buildOf I ≡ Refused k p → 1 ≤ k
+  some-number k p e = building-refuses-with-1-to-8 I k p e .0
+
+  -- number 0 is given exactly if the build succeeds, with the place 0
+  pub number-0-exactly-if-it-is-built : (buildNumbersOf I ≡ (0, 0)) ↔ (buildOf I ≡ Done)
+  number-0-exactly-if-it-is-built = rw (← build-paper I) (numbers-of-done (buildOf I) some-number)
+
+  -- otherwise the number and the place are those of the refusal
+  pub otherwise-the-refusals-number-and-place : (k p : ℕ) → 1 ≤ k → (buildNumbersOf I ≡ (k, p)) ↔ (buildOf I ≡ Refused k p)
+  otherwise-the-refusals-number-and-place = rw (← build-paper I) (numbers-of-refused (buildOf I) some-number)
+
+  -- ---- none of 1 to 7
 
   -- none of 1 to 6 applies exactly if all is within the limits and the buffer is large enough
   pub none-of-1-to-6-applies-exactly-within-the-limits : NoneApplies (lentRefusals HD I) ↔ WithinLimits HD I
@@ -27,7 +42,7 @@ module _ (I : Lent) where
   pub seven-does-not-apply-exactly-to-different-codes : (any (length (I .ends)) (repeated (codeOf HD I)) ≡ false) ↔ Different HD I
   seven-does-not-apply-exactly-to-different-codes = (different HD I, different-back HD I)
 
-  -- ---- each of them, with the place p
+  -- ---- each of 1 to 7, with the place p
 
   module _ (p : ℕ) where
     -- 1 exactly if r is not 2 or 3

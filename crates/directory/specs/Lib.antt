@@ -18,6 +18,7 @@ pub mod Lending
 pub mod Conditions
 pub mod LendingLaws
 pub mod BuildingLaws
+pub mod DoneLaws
 pub mod RefusedLaws
 pub mod CyclicLaws
 pub mod Opening
@@ -40,7 +41,7 @@ pub mod BytesLaws
 pub mod ValueLaws
 pub mod FileLaws
 pub mod FileTableLaws
-pub mod BuiltLaws
+pub mod FileWholeLaws
 pub mod WrittenLaws
 pub mod Demands
 pub mod EveryBuild

@@ -9,6 +9,7 @@ use lib.Dec.{leb}
 use borrow.Author.Tests.{leb-true}
 use Rattle.counting.specs.TestLaws.{and-left, and-right}
 use Rattle.counting.specs.Lists.{every}
+use Rattle.directory.specs.declared.Built.{Built}
 use Rattle.directory.specs.declared.Built.the-variants as built
 use Rattle.directory.specs.declared.Opening.{Opening}
 use Rattle.directory.specs.declared.Opening.the-variants.{Opened, Refused}
@@ -53,7 +54,26 @@ module _ (K : Kind) (h : Header) (f : List ℕ) {k p : ℕ} where
   unfolding every numbered lookupRefusals headerRefusals
   lookup-numbers t = given-numbered 9 16 refl
 
--- an answer whose refusals are never 0 is told by its numbers
+-- ---- an answer whose refusals are never 0 is told by its numbers
+
+module _ (o : Built) (never : (k p : ℕ) → o ≡ built.Refused k p → 1 ≤ k) where
+  pub numbers-of-done : (builtNumbers o ≡ (0, 0)) ↔ (o ≡ built.Done)
+  numbers-of-done = (there o refl, λ e. ap builtNumbers e)
+    where
+      there : (a : Built) → o ≡ a → builtNumbers a ≡ (0, 0) → a ≡ built.Done
+      there built.Done q e = refl
+      there (built.Refused k p) q e = absurd (let z : k ≡ 0 = ap (λ x. x .0) e in omega (arith, never k p q))
+
+  pub numbers-of-refused : (k p : ℕ) → 1 ≤ k → (builtNumbers o ≡ (k, p)) ↔ (o ≡ built.Refused k p)
+  numbers-of-refused k p m = (there o, λ e. ap builtNumbers e)
+    where
+      there : (a : Built) → builtNumbers a ≡ (k, p) → a ≡ built.Refused k p
+      there built.Done e = absurd (let z : 0 ≡ k = ap (λ x. x .0) e in omega arith)
+      there (built.Refused i q) e =
+          let a : i ≡ k = ap (λ x. x .0) e in
+          let b : q ≡ p = ap (λ x. x .1) e in
+          cc
+
 module _ (o : Opening) (never : (k p : ℕ) → o ≡ Refused k p → 1 ≤ k) where
   pub numbers-of-success : (n r v : ℕ) → (openingNumbers o ≡ (0, 0, n, r, v)) ↔ (o ≡ Opened n r v)
   numbers-of-success n r v = (there o refl, λ e. ap openingNumbers e)

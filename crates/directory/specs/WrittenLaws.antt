@@ -15,8 +15,9 @@ use Rattle.directory.specs.RefusalLaws.{given-or-none}
 use Rattle.directory.specs.Building.{Lent, header, codeOf, graph, lineOf, fileOf, lengthNeeded, buildRefusals}
 use Rattle.directory.specs.Lending.{WithinLimits}
 use Rattle.directory.specs.WholeLaws.{true-sized}
-use Rattle.directory.specs.BuildingLaws.{build-done, build-refused, after-done, after-refused, done-limits, done-nothing}
-use Rattle.directory.specs.BuiltLaws.{file-length, file-opens, code-found, line-shows, stranger, lines-below, lines-own, lines-onto}
+use Rattle.directory.specs.BuildingLaws.{build-done, build-refused, after-done, after-refused}
+use Rattle.directory.specs.DoneLaws.{done-limits, done-nothing}
+use Rattle.directory.specs.FileWholeLaws.{file-length, file-opens, code-found, line-shows, stranger, lines-below, lines-own, lines-onto}
 use Rattle.directory.specs.Calls.{lengthOf, buildOf, bufferAfterOf, openOf, lookupOf, showOf}
 
 module _ (I : Lent) where
