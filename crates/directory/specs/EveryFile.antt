@@ -1,28 +1,23 @@
 -- What is proved of the calls on any bytes, for readers: each theorem under a line that says it, with the law that proves it. Assumes nothing.
-use mathlib.Core.Path.{_≡_, refl, sym, ap, _∙_}
+use mathlib.Core.Path.{_≡_, refl, ap}
 use mathlib.Core.Logic.{_⊎_, inl, ⊎-elim, _≢_, _↔_}
 use mathlib.Core.List.{List, []}
 use Prim.Native.Nat.{ℕ, _≤_, _<_}
 use native.Mathlib.Omega.{arith}
 use lib.ListN.{length}
-use denote.Ref.{RefT, ptr, now}
-use Rattle.directory.specs.declared.Opening.{Opening}
 use Rattle.directory.specs.declared.Opening.the-variants as opening
-use Rattle.directory.specs.declared.Found.{Found}
 use Rattle.directory.specs.declared.Found.the-variants as found
 use Rattle.directory.specs.declared.Lead.{Lead}
 use Rattle.directory.specs.declared.Lead.the-variants.{ToLine, PastLast}
-use Rattle.directory.specs.declared.RefusalGroup.{RefusalGroup}
-use Rattle.directory.specs.declared.PlaceMeaning.{PlaceMeaning}
 use Rattle.directory.specs.Sizes.{Header, mostCodes, headed}
 use Rattle.directory.specs.Refusals.{Refusal, NoneApplies, Given}
 use Rattle.directory.specs.File.{headerIn, codeAt, keyLength, storedCode, leadIn}
 use Rattle.directory.specs.Whole.{Framed, Whole}
 use Rattle.directory.specs.Opening.{headerRefusals, openRefusals}
 use Rattle.directory.specs.LookingUp.{lookupRefusals}
-use Rattle.directory.specs.Showing.{emptyPart, bytesOf, IsPart, shown, ShowsNothing, ShowsCode}
-use Rattle.directory.specs.Calls.{kindOf, lengthOf, headerOf, openOf, lookupOf, headerNumbersOf, openNumbersOf, lookupNumbersOf, showPartOf, showOf}
-use Rattle.directory.specs.Answers.{openingNumbers, foundNumbers, groupOf, meaningOf}
+use Rattle.directory.specs.Showing.{emptyPart, bytesOf, shown, ShowsNothing, ShowsCode}
+use Rattle.directory.specs.Calls.{kindOf, headerOf, openOf, lookupOf, headerNumbersOf, openNumbersOf, lookupNumbersOf, showPartOf, showOf}
+use Rattle.directory.specs.Answers.{openingNumbers, foundNumbers}
 use Rattle.directory.specs.RefusalLaws.{given-more}
 use Rattle.directory.specs.NumberLaws.{header-paper, open-paper, lookup-paper, open-numbers, lookup-numbers, numbers-of-success, numbers-of-refusal}
 use Rattle.directory.specs.OpeningLaws.{header-opened, header-refused, opening-opened, opening-refused}
@@ -220,27 +215,3 @@ module _ (f : List ℕ) (n r v : ℕ) (o : openOf f ≡ opening.Opened n r v) wh
   pub the-other-lines-show-nothing : (l : ℕ) → n ≤ l → showOf f l ≡ []
   unfolding showOf
   the-other-lines-show-nothing = rw (← n-is) (shows-none (kindOf f) f is-whole)
-
--- ---- each call decides what it gives back: any two results that its contract allows are equal
-
-pub the-header-is-decided : (f : List ℕ) {o p : Opening} → o ≡ headerOf f → p ≡ headerOf f → o ≡ p
-the-header-is-decided f a b = a ∙ sym b
-
-pub opening-is-decided : (f : List ℕ) {o p : Opening} → o ≡ openOf f → p ≡ openOf f → o ≡ p
-opening-is-decided f a b = a ∙ sym b
-
-pub looking-up-is-decided : (f t : List ℕ) {o p : Found} → o ≡ lookupOf f t → p ≡ lookupOf f t → o ≡ p
-looking-up-is-decided f t a b = a ∙ sym b
-
-pub the-length-is-decided : (n r v : ℕ) {k l : ℕ} → k ≡ lengthOf n r v → l ≡ lengthOf n r v → k ≡ l
-the-length-is-decided n r v a b = a ∙ sym b
-
-pub the-group-is-decided : (number : ℕ) {a b : RefusalGroup} → a ≡ groupOf number → b ≡ groupOf number → a ≡ b
-the-group-is-decided number a b = a ∙ sym b
-
-pub the-meaning-of-a-place-is-decided : (number : ℕ) {a b : PlaceMeaning} → a ≡ meaningOf number → b ≡ meaningOf number → a ≡ b
-the-meaning-of-a-place-is-decided number a b = a ∙ sym b
-
--- two slices that are this part of the file's slice have the same bytes, in the same block and at the same place
-pub showing-is-decided : (l : ℕ) {slice other file : RefT (List ℕ)} → IsPart slice file (showPartOf (now file) l) → IsPart other file (showPartOf (now file) l) → (now slice ≡ now other) × (ptr slice .0 ≡ ptr other .0) × (ptr slice .1 ≡ ptr other .1)
-showing-is-decided l a b = (a .bytes ∙ sym (b .bytes), a .block ∙ sym (b .block), a .from ∙ sym (b .from))

@@ -5,6 +5,7 @@ pub mod Kind
 pub mod Bytes
 pub mod Refusals
 pub mod RefusalLaws
+pub mod RowLaws
 pub mod Values
 pub mod Leads
 pub mod File
@@ -15,6 +16,12 @@ pub mod TableLaws
 pub mod LeadLaws
 pub mod Whole
 pub mod Lending
+pub mod Conditions
+pub mod LendingLaws
+pub mod BuildingLaws
+pub mod DoneLaws
+pub mod RefusedLaws
+pub mod CyclicLaws
 pub mod Opening
 pub mod WholeLaws
 pub mod OpeningLaws
@@ -36,6 +43,10 @@ pub mod ValueLaws
 pub mod FileLaws
 pub mod FileTableLaws
 pub mod SameFileLaws
+pub mod FileWholeLaws
+pub mod WrittenLaws
+pub mod Demands
+pub mod EveryBuild
 pub mod Computing
 pub mod Sayings
 pub mod Cases

@@ -1,17 +1,16 @@
--- The numbers that the calls on a file refuse with, each within its group; so number 0 is success alone; and each answer's numbers are the paper's. Assumes nothing.
+-- The numbers that each call refuses with, within its group; so number 0 is success alone; and each answer's numbers are the paper's. Assumes nothing.
 use mathlib.Core.Path.{_≡_, refl, ap}
 use mathlib.Core.Logic.{_↔_}
 use mathlib.Core.Bool.{Bool, true, _&&_}
-use mathlib.Core.List.{List, _∷_, _++_}
+use mathlib.Core.List.{List}
 use Prim.Native.Nat.{ℕ, _≤_}
 use native.Mathlib.Omega.{arith}
 use lib.Dec.{leb}
-use lib.ListN.{length, getD, length-append}
-use lib.Seq.{getD-append-seam}
 use borrow.Author.Tests.{leb-true}
 use Rattle.counting.specs.TestLaws.{and-left, and-right}
 use Rattle.counting.specs.Lists.{every}
-use Rattle.counting.specs.ListsLaws.{every-passes}
+use Rattle.directory.specs.declared.Built.{Built}
+use Rattle.directory.specs.declared.Built.the-variants as built
 use Rattle.directory.specs.declared.Opening.{Opening}
 use Rattle.directory.specs.declared.Opening.the-variants.{Opened, Refused}
 use Rattle.directory.specs.declared.Found.the-variants as found
@@ -19,11 +18,13 @@ use Rattle.directory.specs.Sizes.{Header}
 use Rattle.directory.specs.Kind.{Kind}
 use Rattle.directory.specs.Refusals.{Refusal, Given}
 use Rattle.directory.specs.RefusalLaws.{first-after}
+use Rattle.directory.specs.RowLaws.{given-passes}
 use Rattle.directory.specs.Values.{tableRefusals}
+use Rattle.directory.specs.Building.{Lent, lentRefusals, graphRefusals, buildRefusals, build}
 use Rattle.directory.specs.Opening.{headerRefusals, wrongMark, markRefusals, keyRefusals, recordRefusals, openRefusals, openedUnless, header, opening}
 use Rattle.directory.specs.LookingUp.{lookupRefusals, lookup}
-use Rattle.directory.specs.Answers.{openingNumbers, foundNumbers}
-use Rattle.directory.specs.Calls.{headerOf, openOf, lookupOf, openNumbersBy, headerNumbersOf, openNumbersOf, lookupNumbersOf}
+use Rattle.directory.specs.Answers.{builtNumbers, openingNumbers, foundNumbers}
+use Rattle.directory.specs.Calls.{buildOf, headerOf, openOf, lookupOf, buildNumbersOf, openNumbersBy, headerNumbersOf, openNumbersOf, lookupNumbersOf}
 
 -- the number of a row is from low to high
 unfoldable numbered : ℕ → ℕ → Refusal → Bool
@@ -33,10 +34,12 @@ numbered low high row = leb low (row .number) && leb (row .number) high
 given-numbered : (low high : ℕ) {table : List Refusal} {k p : ℕ} → every (numbered low high) table ≡ true → Given table k p → (low ≤ k) × (k ≤ high)
 unfolding numbered
 given-numbered low high all g =
-    let i = length (g .before) in
-    let at : getD (g .before ++ g .row ∷ g .after) i (g .row) ≡ g .row = getD-append-seam (g .before) (g .row) (g .after) (g .row) in
-    let t : numbered low high (g .row) ≡ true = rw (← at) (every-passes (numbered low high) (g .before ++ g .row ∷ g .after) (rw (← g .rows) all) i (g .row) (rw (length-append (g .before) (g .row ∷ g .after)) (omega arith))) in
+    let t = given-passes (numbered low high) all g in
     rw (← g .itsNumber) (leb-true low _ (and-left (leb low (g .row .number)) _ t), leb-true _ high (and-right (leb low (g .row .number)) _ t))
+
+pub build-numbers : (K : Kind) (I : Lent) {k p : ℕ} → Given (buildRefusals K I) k p → (1 ≤ k) × (k ≤ 8)
+unfolding every numbered buildRefusals lentRefusals graphRefusals
+build-numbers K I = given-numbered 1 8 refl
 
 module _ (K : Kind) (h : Header) (f : List ℕ) {k p : ℕ} where
   pub header-numbers : Given (headerRefusals K h f) k p → (9 ≤ k) × (k ≤ 11)
@@ -51,7 +54,26 @@ module _ (K : Kind) (h : Header) (f : List ℕ) {k p : ℕ} where
   unfolding every numbered lookupRefusals headerRefusals
   lookup-numbers t = given-numbered 9 16 refl
 
--- an answer whose refusals are never 0 is told by its numbers
+-- ---- an answer whose refusals are never 0 is told by its numbers
+
+module _ (o : Built) (never : (k p : ℕ) → o ≡ built.Refused k p → 1 ≤ k) where
+  pub numbers-of-done : (builtNumbers o ≡ (0, 0)) ↔ (o ≡ built.Done)
+  numbers-of-done = (there o refl, λ e. ap builtNumbers e)
+    where
+      there : (a : Built) → o ≡ a → builtNumbers a ≡ (0, 0) → a ≡ built.Done
+      there built.Done q e = refl
+      there (built.Refused k p) q e = absurd (let z : k ≡ 0 = ap (λ x. x .0) e in omega (arith, never k p q))
+
+  pub numbers-of-refused : (k p : ℕ) → 1 ≤ k → (builtNumbers o ≡ (k, p)) ↔ (o ≡ built.Refused k p)
+  numbers-of-refused k p m = (there o, λ e. ap builtNumbers e)
+    where
+      there : (a : Built) → builtNumbers a ≡ (k, p) → a ≡ built.Refused k p
+      there built.Done e = absurd (let z : 0 ≡ k = ap (λ x. x .0) e in omega arith)
+      there (built.Refused i q) e =
+          let a : i ≡ k = ap (λ x. x .0) e in
+          let b : q ≡ p = ap (λ x. x .1) e in
+          cc
+
 module _ (o : Opening) (never : (k p : ℕ) → o ≡ Refused k p → 1 ≤ k) where
   pub numbers-of-success : (n r v : ℕ) → (openingNumbers o ≡ (0, 0, n, r, v)) ↔ (o ≡ Opened n r v)
   numbers-of-success n r v = (there o refl, λ e. ap openingNumbers e)
@@ -75,6 +97,10 @@ module _ (o : Opening) (never : (k p : ℕ) → o ≡ Refused k p → 1 ≤ k) w
           cc
 
 -- ---- the numbers of an answer are the paper's
+
+pub build-paper : (I : Lent) → builtNumbers (buildOf I) ≡ buildNumbersOf I
+unfolding buildOf build buildNumbersOf
+build-paper I = first-after builtNumbers _ built.Refused _
 
 pub header-paper : (f : List ℕ) → openingNumbers (headerOf f) ≡ headerNumbersOf f
 unfolding headerOf header openedUnless headerNumbersOf openNumbersBy
