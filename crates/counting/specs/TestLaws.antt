@@ -1,6 +1,6 @@
 -- Tests: two numbers compared, and two truth values joined by "and" or "or". Assumes nothing.
 use mathlib.Core.Path.{_≡_, refl}
-use mathlib.Core.Logic.{_⊎_, inl, inr, _≢_}
+use mathlib.Core.Logic.{_⊎_, inl, inr, _≢_, _↔_}
 use mathlib.Core.Bool.{Bool, true, false, _&&_, _||_}
 use Prim.Native.Nat.{ℕ, _≤_, _<_}
 use native.Mathlib.Omega.{arith}
@@ -65,3 +65,11 @@ or-neither-second false b t = t
 
 pub or-none : {a b : Bool} → a ≡ false → b ≡ false → a || b ≡ false
 or-none s t = cc
+
+-- where a test is false exactly if P holds, it is true exactly if P does not
+pub not-exactly : {b : Bool} {P : Type 0} → (b ≡ false) ↔ P → (b ≡ true) ↔ (P → ⊥)
+not-exactly {b} {P} w = (λ t h. clash t (w .1 h), λ d. go b refl d)
+  where
+    go : (c : Bool) → b ≡ c → (P → ⊥) → b ≡ true
+    go true e d = e
+    go false e d = absurd (d (w .0 e))

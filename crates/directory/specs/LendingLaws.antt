@@ -7,7 +7,7 @@ use native.Mathlib.Omega.{arith}
 use lib.Dec.{eqb, ltb}
 use lib.ListN.{length}
 use borrow.Author.Tests.{eqb-true, eq-eqb, ltb-true, ltb-false, lt-ltb, le-ltb, leb-true, le-leb, not-false}
-use Rattle.counting.specs.TestLaws.{eq?, lt?, clash, never-true, and-left, and-right, and-both, or-either, or-second, or-neither, or-neither-second, or-none}
+use Rattle.counting.specs.TestLaws.{eq?, lt?, clash, not-exactly, never-true, and-left, and-right, and-both, or-either, or-second, or-neither, or-neither-second, or-none}
 use Rattle.counting.specs.Below.{any, lowest}
 use Rattle.counting.specs.SearchLaws.{any-has, any-some, any-none, any-false, lowest-is, lowest-only, lowest-some, lowest-missed}
 use Rattle.counting.specs.ListsLaws.{same-equal, same-self}
@@ -19,14 +19,6 @@ use Rattle.directory.specs.Refusals.{NoneApplies}
 use Rattle.directory.specs.Building.{Lent, codeOf, lengthNeeded, lentRefusals}
 use Rattle.directory.specs.Lending.{WithinLimits, Different}
 use Rattle.directory.specs.Conditions.{ArityRight, PartRight, WeightsRight, FewCodes, ListRight, RoomEnough, FirstWrong, FirstRepeated}
-
--- where a test is false exactly if P holds, it is true exactly if P does not
-pub fails : {b : Bool} {P : Type 0} → (b ≡ false) ↔ P → (b ≡ true) ↔ (P → ⊥)
-fails {b} {P} w = (λ t h. clash t (w .1 h), λ d. go b refl d)
-  where
-    go : (c : Bool) → b ≡ c → (P → ⊥) → b ≡ true
-    go true e d = e
-    go false e d = absurd (d (w .0 e))
 
 module _ (K : Kind) (I : Lent) where
   open Kind K using (positions)
@@ -124,18 +116,18 @@ module _ (K : Kind) (I : Lent) where
           record {
             most = low .most;
             before = λ k l. code-right positions run ends k .0 (low .noneBefore k l);
-            wrong = λ l. fails (code-right positions run ends _) .0 (low .passes l);
-            missed = λ e. fails run-met .0 (⊎-elim (λ a. absurd (clash a (lowest-missed n wrong (lowest n wrong) refl (omega arith)))) (λ b. b) (or-either (any n wrong) _ t));
+            wrong = λ l. not-exactly (code-right positions run ends _) .0 (low .passes l);
+            missed = λ e. not-exactly run-met .0 (⊎-elim (λ a. absurd (clash a (lowest-missed n wrong (lowest n wrong) refl (omega arith)))) (λ b. b) (or-either (any n wrong) _ t));
           }
 
       place : FirstWrong K I p → p ≡ lowest n wrong
-      place w = lowest-only (record { noneBefore = λ k l. code-right positions run ends k .1 (w .before k l); most = w .most; passes = λ l. fails (code-right positions run ends p) .1 (w .wrong l) })
+      place w = lowest-only (record { noneBefore = λ k l. code-right positions run ends k .1 (w .before k l); most = w .most; passes = λ l. not-exactly (code-right positions run ends p) .1 (w .wrong l) })
 
       applies : FirstWrong K I p → any n wrong || runMissed run ends ≡ true
       applies w =
           ⊎-elim
-          (λ (l : p < n). rw (any-has n wrong p l (fails (code-right positions run ends p) .1 (w .wrong l))))
-          (λ (l : n ≤ p). or-second (any n wrong) _ (fails run-met .1 (w .missed (omega (arith, w .most)))))
+          (λ (l : p < n). rw (any-has n wrong p l (not-exactly (code-right positions run ends p) .1 (w .wrong l))))
+          (λ (l : n ≤ p). or-second (any n wrong) _ (not-exactly run-met .1 (w .missed (omega (arith, w .most)))))
           (lt? p n)
 
   pub repeated-is : (p : ℕ) → ((any n (repeated (codeOf K I)) ≡ true) × (lowest n (repeated (codeOf K I)) ≡ p)) ↔ FirstRepeated K I p
