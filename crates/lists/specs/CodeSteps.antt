@@ -3,7 +3,7 @@ use mathlib.Core.Path.{_≡_, refl, sym, ap, _∙_}
 use mathlib.Core.Logic.{_≢_, inl, inr, ⊎-elim}
 use mathlib.Core.Bool.{Bool, true, false, _||_}
 use mathlib.Core.List.{List}
-use Prim.Native.Nat.{ℕ, suc, _+_, _-_, _≤_, _<_}
+use Prim.Native.Nat.{ℕ, _+_, _-_, _≤_, _<_}
 use native.Mathlib.Numerals.{add-one}
 use native.Mathlib.Omega.{arith}
 use lib.Dec.{ltb}
@@ -12,10 +12,9 @@ use lib.Seq.{length-take-le}
 use borrow.Author.Tests.{lt-ltb, le-ltb, ltb-true, ltb-false}
 use Rattle.counting.specs.Lists.{same}
 use Rattle.counting.specs.ListsLaws.{same-equal}
-use Rattle.counting.specs.TestLaws.{eq?, never-true, or-second, or-none}
+use Rattle.counting.specs.TestLaws.{eq?, never-true, or-second}
 use Rattle.directory.specs.Codes.{start, end, code, wrongLength, wrongCode}
 use Rattle.directory.specs.CodesLaws.{length-wrong, length-right}
-use Rattle.directory.specs.Kind.{HD}
 use Rattle.records.specs.Standing.{mostBytes}
 
 -- ---- where a code starts

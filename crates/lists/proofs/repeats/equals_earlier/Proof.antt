@@ -60,7 +60,7 @@ said c =
 
 returns : tie.Need-returns Inv-loop μ-loop
 unfolding repeated
-returns c = let s = c .before in sym (any-has _ _ (s .before .before .before .loop .i) (s .before .before .loop-test .taken) (sym (said s) ∙ c .if1 .taken))
+returns c = let s = c .before in sym (any-has _ _ (s .before .before .before .loop .i) (omega arith) (sym (said s) ∙ c .if1 .taken))
 
 add-i : tie.Need-add-i Inv-loop μ-loop
 add-i c = search needs
