@@ -45,10 +45,11 @@ noted-more at j f before after x n l e =
 -- ---- one code more
 
 module _ {r v : ℕ} {run ends weights edges : List ℕ} (w : Nameable r v run ends weights edges) (k : ℕ) (l : k < length ends) where
-  -- the vertices of code k have their room in the array, however it was filled
+  -- the vertices of code k have their room in the array, ..
   pub code-room : k * r + r ≤ length edges
   code-room = let a : (k + 1) * r ≤ length ends * r = mul-le-mul {n₁ = k + 1} {m₁ = r} {n₂ = length ends} {m₂ = r} (omega arith) (omega arith) in omega (arith, w .room)
 
+  -- .. whatever has been written into it
   pub nameable-writable : (at : ℕ) (t filled : List ℕ) → at ≡ k * r → t ≡ code run ends k → length filled ≡ length edges → Writable r v at t weights filled
   nameable-writable at t filled e d long =
       let c = w .codes k l in

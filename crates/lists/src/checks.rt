@@ -9,7 +9,7 @@ ghost use Rattle.counting.specs.Below.{lowest};
 ghost use Rattle.directory.specs.Codes.{wrongCode, runMissed};
 ghost use Rattle.directory.specs.Kind.{HD};
 
-// Whether the end of code k falls or passes the run, or the code is empty or over 32 bytes.
+// Whether the end of code k falls or passes the run, or the code is empty or over 32 bytes. An end that is not past the start falls or leaves the code empty.
 fn wrong_code(run: &[u8], ends: &[u16], k: usize) -> bool
     requires { ⌜ k < length (now ends) ⌝ }
     ensures { λ yes. ⌜ yes ≡ wrongCode (HD .positions) (now (run .entry)) (now (ends .entry)) k ⌝ }

@@ -10,7 +10,7 @@ ghost use Rattle.directory.specs.Kind.{HD, codeSum, vertex as vertexOf};
 ghost use Rattle.lists.specs.Listed.{Nameable, Named};
 ghost use Rattle.lists.specs.Naming.{Weighed, Writable, Noted};
 
-// The sum of a code for part j.
+// The sum of a code for part j. The largest is 534,765,600, so that 32 bits hold it.
 fn code_sum(weights: &[u16], code: &[u8], j: usize) -> u32
     requires { ⌜ Weighed (now weights) (now code) j ⌝ }
     ensures { λ s. ⌜ s ≡ codeSum HD (λ i. getD (now (weights .entry)) i 0) (now (code .entry)) j ⌝ }

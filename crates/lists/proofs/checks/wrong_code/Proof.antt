@@ -12,10 +12,10 @@ end-requires : tie.Need-end-requires
 end-requires c κs = search needs
 
 returns : tie.Need-returns
-returns c = let e = c .before in end-not-past _ _ _ _ _ (e .before .start .ensures .0) (e .end .ensures .0) (c .if1 .taken)
+returns c = let e = c .before in end-not-past _ _ _ _ _ (e .before .start .ensures .0) (e .end .ensures .0) (omega arith)
 
 returns-2 : tie.Need-returns-2
-returns-2 c = let e = c .before .before in end-outside _ _ _ _ _ (e .before .start .ensures .0) (e .end .ensures .0) (c .if2 .taken)
+returns-2 c = let e = c .before .before in end-outside _ _ _ _ _ (e .before .start .ensures .0) (e .end .ensures .0) (omega arith)
 
 add-result : tie.Need-add-result
 add-result c = search needs

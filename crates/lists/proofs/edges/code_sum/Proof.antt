@@ -39,21 +39,21 @@ mul-s c = omega arith
 shared-slice-read-s-2 : tie.Need-shared-slice-read-s-2 Inv-loop μ-loop
 shared-slice-read-s-2 c = omega arith
 
--- weight i of part j, and what its byte and it come to
+-- byte i of the code, weight i of part j, and what they come to
 module _ (c : tie.After-shared-slice-known2 Inv-loop μ-loop) where
-  abbrev i : ℕ
-  i = c .before .before .before .loop .i
+  abbrev here : tie.At-loop Inv-loop μ-loop
+  here = c .before .before .before
 
-  abbrev at : ℕ
-  at = HD .positions * start (c .before .before .before) .args .j + i
+  abbrev weightAt : ℕ
+  weightAt = HD .positions * start here .args .j + here .loop .i
 
-  byte : getD (start (c .before .before .before) .args .code .now) i 0 < oneByte
-  byte = omega (arith, c .before .shared-slice-known .given i)
+  byte : getD (start here .args .code .now) (here .loop .i) 0 < oneByte
+  byte = omega (arith, c .before .shared-slice-known .given (here .loop .i))
 
-  weight : getD (start (c .before .before .before) .args .weights .now) at 0 < twoBytes
-  weight = omega (arith, c .shared-slice-known2 .given at)
+  weight : getD (start here .args .weights .now) weightAt 0 < twoBytes
+  weight = omega (arith, c .shared-slice-known2 .given weightAt)
 
-  term : let a = start (c .before .before .before) .args in getD (a .code .now) i 0 * getD (a .weights .now) at 0 ≤ largestTerm
+  term : getD (start here .args .code .now) (here .loop .i) 0 * getD (start here .args .weights .now) weightAt 0 ≤ largestTerm
   term = term-most _ _ byte weight
 
 cast-s-2 : tie.Need-cast-s-2 Inv-loop μ-loop
