@@ -21,7 +21,7 @@ add-result : tie.Need-add-result
 add-result c = search needs
 
 returns-3 : tie.Need-returns-3
-returns-3 c = let e = c .before .before in bytes-decide _ _ _ _ _ (e .before .start .ensures .0) (e .end .ensures .0) (omega arith) (omega arith)
+returns-3 c = let e = c .before .before in let a = e .before .before .before .before .args in bytes-decide (a .run .now) (a .ends .now) (a .k) (e .before .start .result) (e .end .result) (e .before .start .ensures .0) (e .end .ensures .0) (omega arith) (omega arith)
 
 pub wrong-code-spec : {M : Type 1} → statement M
 wrong-code-spec = tie.close (tie.spec start-requires end-requires returns returns-2 add-result returns-3)
