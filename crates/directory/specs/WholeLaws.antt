@@ -27,11 +27,11 @@ use Rattle.directory.specs.Whole.{Sized, Framed, Marks, Table, Key, land
 
 -- ---- sizes
 
-arity-true : (r : ℕ) → arityAllowed r ≡ true → (2 ≤ r) × (r ≤ 3)
+pub arity-true : (r : ℕ) → arityAllowed r ≡ true → (2 ≤ r) × (r ≤ 3)
 unfolding arityAllowed
 arity-true r t = ⊎-elim (λ a. let e = eqb-true r 2 a in (omega arith, omega arith)) (λ a. let e = eqb-true r 3 a in (omega arith, omega arith)) (or-either (eqb r 2) (eqb r 3) t)
 
-true-arity : (r : ℕ) → 2 ≤ r → r ≤ 3 → arityAllowed r ≡ true
+pub true-arity : (r : ℕ) → 2 ≤ r → r ≤ 3 → arityAllowed r ≡ true
 unfolding arityAllowed
 true-arity r a b = ⊎-elim (λ (e : r ≡ 2). rw (eq-eqb r 2 e)) (λ (d : r ≢ 2). or-second (eqb r 2) (eqb r 3) (eq-eqb r 3 (omega arith))) (eq? r 2)
 

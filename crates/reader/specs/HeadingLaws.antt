@@ -1,48 +1,29 @@
 -- What the sizes, the length of a file and the header call give, test by test, with the numbers as the code has them. Assumes nothing.
-use mathlib.Core.Path.{_≡_, refl, sym, _∙_}
+use mathlib.Core.Path.{_≡_, sym, _∙_}
 use mathlib.Core.Logic.{_≢_}
-use mathlib.Core.Bool.{Bool, true, false}
+use mathlib.Core.Bool.{true, false}
 use mathlib.Core.List.{List}
-use Prim.Native.Nat.{ℕ, _*_, _≤_, _<_}
-use native.Mathlib.Omega.{arith}
-use lib.Dec.{leb}
+use Prim.Native.Nat.{ℕ, _≤_, _<_}
 use lib.ListN.{length}
-use borrow.Author.Tests.{ne-eqb, lt-ltb, le-ltb, leb-false, leb-true}
-use Rattle.counting.specs.TestLaws.{never-true}
+use borrow.Author.Tests.{ne-eqb, lt-ltb, le-ltb}
 use Rattle.directory.specs.declared.Opening.the-variants.{Opened, Refused}
-use Rattle.directory.specs.Sizes.{Header, headed, mostVertices, mostCodes, headerAllowed}
+use Rattle.directory.specs.Sizes.{headed, mostCodes, headerAllowed}
 use Rattle.directory.specs.Kind.{HD}
 use Rattle.directory.specs.Bytes.{marked}
 use Rattle.directory.specs.Refusals.{first}
 use Rattle.directory.specs.File.{headerLength, headerIn}
-use Rattle.directory.specs.Whole.{Sized}
-use Rattle.directory.specs.WholeLaws.{sized-true, true-sized}
+use Rattle.directory.specs.WholeLaws.{sized-true}
 use Rattle.directory.specs.Opening.{headerRefusals, openedUnless, header}
 use Rattle.directory.specs.OpeningLaws.{header-opened}
 use Rattle.directory.specs.Calls.{lengthOf, headerOf}
 use Rattle.records.specs.Standing.{Room, keyFrom}
-use Rattle.records.specs.StandingLaws.{length-from, part-most}
+use Rattle.records.specs.StandingLaws.{length-from}
 use Rattle.records.specs.FramedLaws.{sized-room}
 
 -- ---- the sizes
 
-pub disallowed : (h : Header) → (Sized h → ⊥) → false ≡ headerAllowed h
-disallowed h d = sym (never-true (headerAllowed h) (λ t. d (sized-true h t)))
-
 pub allowed-room : (n r v : ℕ) → headerAllowed (headed n r v) ≡ true → Room r v × (n ≤ mostCodes)
 allowed-room n r v t = let s = sized-true (headed n r v) t in (sized-room n r v s, s .few)
-
--- a part size over all vertices
-pub part-too-large : (n r v : ℕ) → mostVertices < v → false ≡ headerAllowed (headed n r v)
-part-too-large n r v l = disallowed (headed n r v) (λ s. omega (arith, part-most r v (sized-room n r v s)))
-
--- where all else is allowed, the product decides
-pub product-decides : (n r v : ℕ) → n ≤ mostCodes → 2 ≤ r → r ≤ 3 → 1 ≤ v → leb (r * v) mostVertices ≡ headerAllowed (headed n r v)
-product-decides n r v few two three some = go (leb (r * v) mostVertices) refl
-  where
-    go : (b : Bool) → leb (r * v) mostVertices ≡ b → b ≡ headerAllowed (headed n r v)
-    go true t = sym (true-sized (headed n r v) (record { two = two; three = three; some = some; room = leb-true (r * v) mostVertices t; few = few }))
-    go false t = disallowed (headed n r v) (λ s. omega (arith, leb-false (r * v) mostVertices t, s .room))
 
 -- ---- the length of a file
 

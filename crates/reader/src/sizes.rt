@@ -1,36 +1,17 @@
-// The sizes that document 01 allows, and the length of a file.
-use records::offsets::MOST_PARTS;
+// The numbers of a header, and the length of a file.
 use records::offsets::key_at;
+use records::sizes::arity_allowed;
+use records::sizes::codes_allowed;
+use records::sizes::part_allowed;
 ghost use mathlib.Core.Path.{_≡_};
 ghost use Rattle.directory.specs.Sizes.{headed, headerAllowed};
 ghost use Rattle.directory.specs.Calls.{lengthOf};
 
-const FEWEST_PARTS: usize = 2;
-
-const MOST_VERTICES: usize = 4096;
-
-const MOST_CODES: usize = 1024;
-
-// Whether the numbers of a header are within the sizes. The part size is looked at alone first, so that the product fits.
+// Whether the numbers of a header are within the sizes.
 pub fn allowed(n: usize, r: usize, v: usize) -> bool
     ensures { λ yes. ⌜ yes ≡ headerAllowed (headed n r v) ⌝ }
 {
-    if MOST_CODES < n {
-        return false;
-    }
-    if r < FEWEST_PARTS {
-        return false;
-    }
-    if MOST_PARTS < r {
-        return false;
-    }
-    if v == 0 {
-        return false;
-    }
-    if MOST_VERTICES < v {
-        return false;
-    }
-    r * v <= MOST_VERTICES
+    codes_allowed(n) && arity_allowed(r) && part_allowed(r, v)
 }
 
 // The length of the file for n, r and v, and 0, which no file has, where the sizes do not allow them.

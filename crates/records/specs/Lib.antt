@@ -1,3 +1,4 @@
+pub mod SizeSteps
 pub mod Standing
 pub mod StandingLaws
 pub mod FramedLaws

@@ -28,29 +28,29 @@ use Rattle.records.specs.Standing.{mostBytes, bytesFrom, weightOf, value
 abbrev pub largestTerm : ℕ
 largestTerm = 16_711_425
 
--- the first i terms of the sum of code t for part j
-unfoldable pub termsOf : List ℕ → List ℕ → ℕ → ℕ → ℕ
-termsOf f t j i = sum i (λ i. (getD t i 0 + HD .plus) * weightOf f (mostBytes * j + i))
+-- the first i terms of the sum of code t for part j, under any weights
+unfoldable pub termsOf : (ℕ → ℕ) → List ℕ → ℕ → ℕ → ℕ
+termsOf weight t j i = sum i (λ i. (getD t i 0 + HD .plus) * weight (mostBytes * j + i))
 
 pub term-most : (b w : ℕ) → b < oneByte → w < twoBytes → b * w ≤ largestTerm
 term-most b w h k = let p : b ≤ 255 = omega arith in let q : w ≤ 65535 = omega arith in mul-le-mul p q
 
-module _ (f t : List ℕ) (j : ℕ) where
-  pub terms-none : termsOf f t j 0 ≡ 0
+module _ (weight : ℕ → ℕ) (t : List ℕ) (j : ℕ) where
+  pub terms-none : termsOf weight t j 0 ≡ 0
   unfolding termsOf sum
   terms-none = refl
 
-  pub terms-next : (i b w : ℕ) → b ≡ getD t i 0 → w ≡ twoAt f (valuesFrom j + 2 * i) → termsOf f t j (i + 1) ≡ termsOf f t j i + b * w
+  pub terms-next : (i b w : ℕ) → b ≡ getD t i 0 → w ≡ weight (mostBytes * j + i) → termsOf weight t j (i + 1) ≡ termsOf weight t j i + b * w
   unfolding termsOf
-  terms-next i b w e d =
-      let at : 7 + (2 + 2 * (32 * j)) + 2 * i ≡ 7 + (2 + 2 * (32 * j + i)) = omega arith in
-      let k : w ≡ weightOf f (32 * j + i) = d ∙ ap (twoAt f) at in
-      let a : b ≡ getD t i 0 + 0 = omega arith in
-      sum-next i (λ i. (getD t i 0 + 0) * weightOf f (32 * j + i)) ∙ rw (a, k)
+  terms-next i b w e d = let a : b ≡ getD t i 0 + 0 = omega arith in sum-next i (λ i. (getD t i 0 + 0) * weight (mostBytes * j + i)) ∙ rw (a, d)
 
-  pub terms-all : termsOf f t j (length t) ≡ codeSum HD (weightOf f) t j
+  pub terms-all : termsOf weight t j (length t) ≡ codeSum HD weight t j
   unfolding termsOf codeSum
   terms-all = refl
+
+-- weight i of part j, from where the weights of the part begin
+pub weight-from : (f : List ℕ) (j i w : ℕ) → w ≡ twoAt f (valuesFrom j + 2 * i) → w ≡ weightOf f (mostBytes * j + i)
+weight-from f j i w e = let at : valuesFrom j + 2 * i ≡ 7 + (2 + 2 * (mostBytes * j + i)) = omega arith in e ∙ ap (twoAt f) at
 
 -- ---- the vertices of a code and their values
 

@@ -76,6 +76,10 @@ module _ (n r v : ℕ) where
 pub part-most : (r v : ℕ) → Room r v → v ≤ mostVertices
 part-most r v s = let a : 1 * v ≤ r * v = mul-le-mul {n₁ = 1} {m₁ = v} {n₂ = r} {m₂ = v} (omega (arith, s .two)) (omega arith) in omega (arith, a, s .room)
 
+-- a part starts at no more than 2 times the largest part size
+pub part-start : (j v : ℕ) → j < 3 → v ≤ mostVertices → j * v ≤ 2 * mostVertices
+part-start j v l m = mul-le-mul {n₁ = j} {m₁ = v} {n₂ = 2} {m₂ = mostVertices} (omega arith) m
+
 pub weighed-in : (r v : ℕ) (f t : List ℕ) (j : ℕ) → Tabled r v f → length t ≤ mostBytes → j < r → Weighed f t j
 weighed-in r v f t j s l m = record { part = omega (arith, s .room .three); long = omega (arith, s .long); short = l }
 

@@ -23,7 +23,7 @@ pub fn key_length(file: &[u8], r: usize, v: usize, l: usize) -> usize
 }
 
 // Whether the bytes of the file from an offset on are those of the code: none of them is unequal.
-fn same_bytes(file: &[u8], at: usize, code: &[u8]) -> bool
+pub fn same_bytes(file: &[u8], at: usize, code: &[u8]) -> bool
     requires { ⌜ (at + length (now code) ≤ length (now file)) × (length (now code) ≤ mostBytes) ⌝ }
     ensures { λ yes. ⌜ yes ≡ same (take (length (now (code .entry))) (drop at (now (file .entry)))) (now (code .entry)) ⌝ }
 {

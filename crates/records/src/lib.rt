@@ -1,5 +1,6 @@
 // The records of a file, read where they stand: numbers, values, rank entries, the vertices of a code, and where it leads.
 pub mod offsets; // offsets.rt: where the records stand
+pub mod sizes; // sizes.rt: the sizes that are allowed
 pub mod numbers; // numbers.rt: marks and numbers in bytes
 pub mod values; // values.rt: the values, the rank entries, and the line of a vertex
 mod vertices; // vertices.rt: the vertices of a code, and its landing vertex

@@ -1,42 +1,35 @@
 -- `reader::sizes::allowed` meets its contract. Assumes nothing.
-use mathlib.Core.Path.{_≡_}
-use mathlib.Core.Bool.{false}
-use native.Mathlib.Nat.{mul-le-mul}
-use native.Mathlib.Omega.{arith}
-use Rattle.directory.specs.Sizes.{Header, headed, mostVertices, headerAllowed}
-use Rattle.directory.specs.Whole.{Sized}
-use Rattle.reader.specs.HeadingLaws.{disallowed, part-too-large, product-decides}
+use mathlib.Core.Path.{_≡_, sym, _∙_}
+use mathlib.Core.Logic.{⊎-elim}
+use mathlib.Core.Bool.{_&&_}
+use borrow.Author.Needs.{needs}
+use Rattle.counting.specs.TestLaws.{and-right}
+use Rattle.directory.specs.Sizes.{arityAllowed, codesAllowed, headerAllowed}
 use Rattle.reader.proofs.sizes.allowed.Statement.{statement}
 use Rattle.reader.proofs.sizes.allowed.Tie as tie
 
--- a number outside the sizes
-abbrev sizesOf : tie.Start → Header
-sizesOf c = headed (c .args .n) (c .args .r) (c .args .v)
+codes-allowed-requires : tie.Need-codes-allowed-requires
+codes-allowed-requires c κs = search needs
 
-out : (c : tie.Start) → (Sized (sizesOf c) → ⊥) → false ≡ headerAllowed (sizesOf c)
-out c = disallowed (sizesOf c)
+arity-allowed-requires : tie.Need-arity-allowed-requires
+arity-allowed-requires c κs = search needs
+
+-- what the first two calls come to
+both : (c : tie.Joined1) → let a = c .before .before .args in c .if1 .if2 ≡ codesAllowed (a .n) && arityAllowed (a .r)
+both c =
+    let codes = sym (c .before .codes-allowed .ensures) in
+    ⊎-elim (λ w. rw (codes ∙ w .0 .taken) (w .2 ∙ w .1 .ensures)) (λ w. rw (codes ∙ w .0 .left) (w .1 ∙ w .0 .left)) (c .if1 .came)
+
+part-allowed-requires : tie.Need-part-allowed-requires
+part-allowed-requires c κs = let a = c .before .before .before .args in and-right (codesAllowed (a .n)) (arityAllowed (a .r)) (sym (both (c .before)) ∙ c .if2 .taken)
 
 returns : tie.Need-returns
-returns c = out (c .before) (λ s. omega (arith, s .few))
+unfolding headerAllowed
+returns c = rw (← both (c .before .before), c .before .if2 .taken) (c .part-allowed .ensures)
 
 returns-2 : tie.Need-returns-2
-returns-2 c = out (c .before .before) (λ s. omega (arith, s .two))
-
-returns-3 : tie.Need-returns-3
-returns-3 c = out (c .before .before .before) (λ s. omega (arith, s .three))
-
-returns-4 : tie.Need-returns-4
-returns-4 c = out (c .before .before .before .before) (λ s. omega (arith, s .some))
-
-returns-5 : tie.Need-returns-5
-returns-5 c = part-too-large _ _ _ (omega arith)
-
-mul-result : tie.Need-mul-result
-mul-result c = let a = c .before .before .before .before .before .args in omega (arith, mul-le-mul {n₁ = a .r} {m₁ = a .v} {n₂ = 3} {m₂ = mostVertices} (omega arith) (omega arith))
-
-returns-6 : tie.Need-returns-6
-returns-6 c = product-decides _ _ _ (omega arith) (omega arith) (omega arith) (omega arith)
+unfolding headerAllowed
+returns-2 c = rw (← both (c .before), c .if2 .left)
 
 pub allowed-spec : {M : Type 1} → statement M
-allowed-spec =
-    tie.close (tie.spec returns returns-2 returns-3 returns-4 returns-5 mul-result returns-6)
+allowed-spec = tie.close (tie.spec codes-allowed-requires arity-allowed-requires part-allowed-requires returns returns-2)

@@ -3,12 +3,13 @@ use mathlib.Core.Path.{_≡_, sym, ap, _∙_}
 use Prim.Native.Nat.{_*_, _-_, _≤_}
 use native.Mathlib.Omega.{arith}
 use lib.ListN.{length}
-use Rattle.records.specs.ReadingSteps.{largestTerm, termsOf, term-most, terms-none, terms-next, terms-all}
+use Rattle.records.specs.Standing.{weightOf}
+use Rattle.records.specs.ReadingSteps.{largestTerm, termsOf, term-most, terms-none, terms-next, terms-all, weight-from}
 use Rattle.records.proofs.vertices.code_sum.Statement.{statement}
 use Rattle.records.proofs.vertices.code_sum.Tie as tie
 
 abbrev Inv-loop : tie.InvT-loop
-Inv-loop file code j from s₀ i₀ s i = (i ≤ length code) × (s ≡ termsOf file code j i) × (s ≤ largestTerm * i)
+Inv-loop file code j from s₀ i₀ s i = (i ≤ length code) × (s ≡ termsOf (weightOf file) code j i) × (s ≤ largestTerm * i)
 
 abbrev μ-loop : tie.MeasureT-loop
 μ-loop file code j from s₀ i₀ s i = length code - i
@@ -69,14 +70,14 @@ loop-again : tie.Need-loop-again Inv-loop μ-loop
 loop-again c =
     let l = c .before .before .before in
     let a = start l .args in
-    (omega arith, omega (arith, terms-next (a .file .now) (a .code .now) (a .j) (l .loop .i) (c .byte .result) (c .before .two .result) (c .byte .ensures .0) (c .before .two .ensures .0)), omega (arith, term c))
+    (omega arith, omega (arith, terms-next (weightOf (a .file .now)) (a .code .now) (a .j) (l .loop .i) (c .byte .result) (c .before .two .result) (c .byte .ensures .0) (weight-from (a .file .now) (a .j) (l .loop .i) _ (c .before .two .ensures .0))), omega (arith, term c))
 
 returns : tie.Need-returns Inv-loop μ-loop
 returns c =
     let l = c .before in
     let a = start l .args in
     let e : l .loop .i ≡ length (a .code .now) = omega arith in
-    l .loop .inv .1 ∙ ap (termsOf (a .file .now) (a .code .now) (a .j)) e ∙ terms-all (a .file .now) (a .code .now) (a .j)
+    l .loop .inv .1 ∙ ap (termsOf (weightOf (a .file .now)) (a .code .now) (a .j)) e ∙ terms-all (weightOf (a .file .now)) (a .code .now) (a .j)
 
 pub code-sum-spec : {M : Type 1} → statement M
 code-sum-spec =

@@ -1,11 +1,12 @@
 -- `records::vertices::vertex` meets its contract. Assumes nothing.
 use mathlib.Core.Path.{ap}
 use Prim.Native.Nat.{_+_, _*_, _%_, _≤_, _<_}
-use native.Mathlib.Nat.{mul-le-mul, mod-lt}
+use native.Mathlib.Nat.{mod-lt}
 use native.Mathlib.Omega.{arith}
 use borrow.Author.Needs.{needs}
 use Rattle.directory.specs.Sizes.{mostVertices}
 use Rattle.directory.specs.Kind.{vertex}
+use Rattle.records.specs.StandingLaws.{part-start}
 use Rattle.records.proofs.vertices.vertex.Statement.{statement}
 use Rattle.records.proofs.vertices.vertex.Tie as tie
 
@@ -18,9 +19,8 @@ cast-s c = search needs
 rem-result : tie.Need-rem-result
 rem-result c = search needs
 
--- the part starts at no more than 2 times the largest part size
 part : (c : tie.After-code-sum) → let a = c .before .before .before .args in a .j * a .v ≤ 2 * mostVertices
-part c = let a = c .before .before .before .args in mul-le-mul {n₁ = a .j} {m₁ = a .v} {n₂ = 2} {m₂ = mostVertices} (omega arith) (omega arith)
+part c = part-start _ _ (omega arith) (omega arith)
 
 mul-result : tie.Need-mul-result
 mul-result c = omega (arith, part c)

@@ -1,0 +1,4 @@
+pub mod Listed
+pub mod CodeSteps
+pub mod Naming
+pub mod NamingSteps
