@@ -1,5 +1,5 @@
--- Laws of `each` where its parts have one length: how long the list is, and where each part stands in it. Assumes nothing.
-use mathlib.Core.Path.{_≡_, sym, _∙_}
+-- Laws of `each`: equal parts make equal lists; and where the parts have one length, how long the list is, and where each part stands in it. Assumes nothing.
+use mathlib.Core.Path.{_≡_, refl, sym, _∙_}
 use mathlib.Core.Logic.{⊎-elim, _≢_}
 use mathlib.Core.List.{List}
 use Prim.Native.Nat.{ℕ, zero, suc, _+_, _*_, _<_}
@@ -9,6 +9,11 @@ use lib.ListN.{length, getD, length-append, List·getD-append}
 use lib.Seq.{getD-append-add}
 use Rattle.counting.specs.TestLaws.{eq?}
 use Rattle.counting.specs.Lists.{each}
+
+pub each-equal : (k : ℕ) (f g : ℕ → List ℕ) → ((i : ℕ) → i < k → f i ≡ g i) → each k f ≡ each k g
+unfolding each
+each-equal zero f g same = refl
+each-equal (suc k) f g same = rw (each-equal k f g (λ i l. same i (omega arith)), same k (omega arith))
 
 -- of k parts with w places each, place a of part i is a place of the whole
 pub place-inside : (w k i a : ℕ) → i < k → a < w → w * i + a < w * k
