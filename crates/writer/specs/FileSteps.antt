@@ -1,21 +1,21 @@
 -- The records one after the other are the file, and fill the start of the buffer. Assumes nothing.
 use mathlib.Core.Path.{_≡_, ap, _∙_}
 use mathlib.Core.List.{List, _++_}
-use Prim.Native.Nat.{ℕ, _+_, _*_, _/_, _≤_, _<_}
+use Prim.Native.Nat.{ℕ, _≤_, _<_}
 use native.Mathlib.Omega.{arith}
 use lib.ListN.{length, getD, drop}
 use Rattle.counting.specs.Lists.{each}
 use Rattle.counting.specs.Wrote.{Wrote}
 use Rattle.counting.specs.WroteLaws.{wrote-whole, wrote-named}
-use Rattle.graph.specs.Assignment.{blocks}
 use Rattle.directory.specs.Sizes.{Header, headed}
-use Rattle.directory.specs.SizeLaws.{file-length}
 use Rattle.directory.specs.Codes.{code}
 use Rattle.directory.specs.CodesLaws.{code-length}
 use Rattle.directory.specs.Kind.{HD}
 use Rattle.directory.specs.Values.{valueRecord, rankRecord, tableRecords}
 use Rattle.directory.specs.File.{headerRecord, weightRecord, keyRecord, file, fileLength}
 use Rattle.directory.specs.FileLaws.{file-size}
+use Rattle.records.specs.Standing.{keyFrom}
+use Rattle.records.specs.StandingLaws.{length-from}
 use Rattle.writer.specs.Ready.{fileIn, Small, Listed, Ready}
 
 module _ {r v : ℕ} {weights values rank run ends keys buffer : List ℕ} (ready : Ready r v weights values rank run ends keys buffer) where
@@ -41,9 +41,9 @@ module _ {r v : ℕ} {weights values rank run ends keys buffer : List ℕ} (read
   pub all-listed : Listed run ends keys
   all-listed = record { isCode = λ l m. ready .isCode l (omega (arith, ready .forKeys)); codes = ready .codes }
 
-  -- there is room for each record
-  pub fits : 13 + 64 * r + (r * v + 3) / 4 + 2 * blocks (r * v) + 35 * length ends ≤ length buffer
-  fits = omega (arith, ready .room, file-length h)
+  -- there is room up to where the KY record of one line more would stand
+  pub fits : keyFrom r v (length ends) ≤ length buffer
+  fits = omega (arith, ready .room, length-from (length ends) r v)
 
   -- the records, one after the other
   abbrev pub records : List ℕ

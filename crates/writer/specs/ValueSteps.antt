@@ -1,4 +1,4 @@
--- Four values in a byte, by shifts and ors as by sums, and the values past the last as zeros. Assumes nothing.
+-- Four values in a byte: put together by shifts and ors they make the sum that the definition has. Assumes nothing.
 use mathlib.Core.Path.{_≡_, _∙_}
 use Prim.Native.Nat.{ℕ, _+_, _*_, _%_, _^_, _≤_, _<_}
 use native.Mathlib.Nat.{add-comm}

@@ -1,4 +1,5 @@
 // The records before KY, stored: the header, the weights, the values and the rank entries. Each function returns the place past what it wrote.
+// The weights, values and rank entries know nothing of n, so that what is promised of them holds for every header h that calls for as many.
 use crate::numbers::put_mark;
 use crate::numbers::put_two;
 use crate::numbers::put_twos;
@@ -25,10 +26,10 @@ pub fn put_header(buffer: &mut [u8], n: usize, r: usize, v: usize) -> usize
     ensures written { λ to. ⌜ Wrote 0 (headerRecord HD (headed n r v)) (now (buffer .entry)) (now (buffer .exit)) to ⌝ }
     ensures past { λ to. ⌜ to ≡ headerLength ⌝ }
 {
-    let a = put_mark(buffer, 0, b'H', b'D');
-    let b = put_two(buffer, a, n);
-    let c = put_byte(buffer, b, r as u8);
-    put_two(buffer, c, v)
+    let n_at = put_mark(buffer, 0, b'H', b'D');
+    let r_at = put_two(buffer, n_at, n);
+    let v_at = put_byte(buffer, r_at, r as u8);
+    put_two(buffer, v_at, v)
 }
 
 // The weights, under WT.
@@ -37,8 +38,8 @@ pub fn put_weights(buffer: &mut [u8], at: usize, weights: &[u16]) -> usize
     ensures written { λ to. ⌜ ((h : Header) → length (now (weights .entry)) ≡ HD .positions * h .r → Wrote at (weightRecord HD h (λ i. getD (now (weights .entry)) i 0)) (now (buffer .entry)) (now (buffer .exit)) to) ⌝ }
     ensures past { λ to. ⌜ to ≡ at + (markLength + 2 * length (now (weights .entry))) ⌝ }
 {
-    let a = put_mark(buffer, at, b'W', b'T');
-    put_twos(buffer, a, weights)
+    let first = put_mark(buffer, at, b'W', b'T');
+    put_twos(buffer, first, weights)
 }
 
 // The values, under GV.
@@ -49,8 +50,8 @@ pub fn put_values(buffer: &mut [u8], at: usize, values: &[u8]) -> usize
     ensures written { λ to. ⌜ ((h : Header) → length (now (values .entry)) ≡ vertexCount h → Wrote at (valueRecord h (λ x. getD (now (values .entry)) x 0)) (now (buffer .entry)) (now (buffer .exit)) to) ⌝ }
     ensures past { λ to. ⌜ to ≡ at + (markLength + (length (now (values .entry)) + 3) / 4) ⌝ }
 {
-    let a = put_mark(buffer, at, b'G', b'V');
-    put_packed(buffer, a, values)
+    let first = put_mark(buffer, at, b'G', b'V');
+    put_packed(buffer, first, values)
 }
 
 // The rank entries, under RK.
@@ -59,6 +60,6 @@ pub fn put_ranks(buffer: &mut [u8], at: usize, rank: &[u16]) -> usize
     ensures written { λ to. ⌜ ((h : Header) (value : ℕ → ℕ) → length (now (rank .entry)) ≡ rankEntries h → Holds (rankEntries h) (rankEntry (h .r) value) (now (rank .entry)) → Wrote at (rankRecord h value) (now (buffer .entry)) (now (buffer .exit)) to) ⌝ }
     ensures past { λ to. ⌜ to ≡ at + (markLength + 2 * length (now (rank .entry))) ⌝ }
 {
-    let a = put_mark(buffer, at, b'R', b'K');
-    put_twos(buffer, a, rank)
+    let first = put_mark(buffer, at, b'R', b'K');
+    put_twos(buffer, first, rank)
 }

@@ -1,4 +1,4 @@
-// The KY records, stored. Each function returns the place past what it wrote.
+// The KY records, stored. Each function returns the place past what it wrote. A KY record is the same under every header h.
 use crate::numbers::put_mark;
 use crate::starts::start;
 use records::offsets::POSITIONS;
@@ -23,10 +23,10 @@ fn put_key(buffer: &mut [u8], at: usize, code: &[u8]) -> usize
     ensures written { λ to. ⌜ ((h : Header) → Wrote at (keyRecord HD h (now (code .entry))) (now (buffer .entry)) (now (buffer .exit)) to) ⌝ }
     ensures past { λ to. ⌜ to ≡ at + (keyHead + HD .positions) ⌝ }
 {
-    let a = put_mark(buffer, at, b'K', b'Y');
-    let b = put_byte(buffer, a, code.len() as u8);
-    let c = put_bytes(buffer, b, code);
-    put_zeros(buffer, c, POSITIONS - code.len())
+    let length_at = put_mark(buffer, at, b'K', b'Y');
+    let code_at = put_byte(buffer, length_at, code.len() as u8);
+    let filling_at = put_bytes(buffer, code_at, code);
+    put_zeros(buffer, filling_at, POSITIONS - code.len())
 }
 
 // Code k of the list, under KY.

@@ -33,9 +33,9 @@ pub fn put_file(
     requires { ⌜ Ready r v (now weights) (now values) (now rank) (now run) (now ends) (now keys) (now buffer) ⌝ }
     ensures { λ _. ⌜ now (buffer .exit) ≡ fileIn r v (now (weights .entry)) (now (values .entry)) (now (run .entry)) (now (ends .entry)) (now (keys .entry)) ++ drop (fileLength HD (headed (length (now (ends .entry))) r v)) (now (buffer .entry)) ⌝ }
 {
-    let a = put_header(buffer, ends.len(), r, v);
-    let b = put_weights(buffer, a, weights);
-    let c = put_values(buffer, b, values);
-    let d = put_ranks(buffer, c, rank);
-    put_keys(buffer, d, run, ends, keys);
+    let weights_at = put_header(buffer, ends.len(), r, v);
+    let values_at = put_weights(buffer, weights_at, weights);
+    let ranks_at = put_values(buffer, values_at, values);
+    let keys_at = put_ranks(buffer, ranks_at, rank);
+    put_keys(buffer, keys_at, run, ends, keys);
 }

@@ -1,12 +1,12 @@
 -- `writer::keys::put_keys` meets its contract. The invariant: the codes of the first l lines are written. The measure is what is left of the lines. Assumes nothing.
 use mathlib.Core.Path.{_≡_}
-use Prim.Native.Nat.{ℕ, _+_, _-_, _*_, _≤_, _<_}
+use Prim.Native.Nat.{_+_, _-_, _*_, _≤_, _<_}
 use native.Mathlib.Omega.{arith}
 use lib.ListN.{length, getD}
 use Rattle.counting.specs.Lists.{each}
 use Rattle.counting.specs.Wrote.{Wrote}
 use Rattle.counting.specs.WroteLaws.{wrote-each-none, wrote-each-next}
-use Rattle.directory.specs.Sizes.{Header, headed}
+use Rattle.directory.specs.Sizes.{Header}
 use Rattle.directory.specs.Codes.{code}
 use Rattle.directory.specs.Kind.{HD}
 use Rattle.directory.specs.File.{keyHead, keyRecord}
