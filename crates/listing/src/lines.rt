@@ -1,8 +1,8 @@
 // The lines of the text.
-use crate::bytes::put_byte;
-use crate::bytes::put_bytes;
 use crate::numbers::put_decimal;
 use crate::numbers::put_hex;
+use storing::put_byte;
+use storing::put_bytes;
 ghost use mathlib.Core.List.{_∷_};
 ghost use Prim.Native.Nat.{_+_, _≤_};
 ghost use lib.ListN.{length};

@@ -1,5 +1,5 @@
 // Numbers in decimal and codes in lowercase hex, in ASCII.
-use crate::bytes::put_byte;
+use storing::put_byte;
 ghost use mathlib.Core.Path.{_≡_};
 ghost use mathlib.Core.List.{[], _∷_};
 ghost use Prim.Native.Nat.{_+_, _/_, _%_, _<_, _≤_};

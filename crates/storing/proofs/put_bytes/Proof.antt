@@ -1,18 +1,18 @@
--- `listing::bytes::put_bytes` meets its contract. The invariant: the first i bytes are written. The measure is what is left of them. Assumes nothing.
+-- `storing::put_bytes` meets its contract. The invariant: the first i bytes are written. The measure is what is left of them. Assumes nothing.
 use mathlib.Core.Path.{_≡_}
 use Prim.Native.Nat.{_+_, _-_, _≤_}
 use native.Mathlib.Omega.{arith}
 use lib.ListN.{length, take}
 use Rattle.counting.specs.Wrote.{Wrote}
 use Rattle.counting.specs.WroteLaws.{wrote-none, wrote-take-next, wrote-take-all}
-use Rattle.listing.proofs.bytes.put_bytes.Statement.{statement}
-use Rattle.listing.proofs.bytes.put_bytes.Tie as tie
+use Rattle.storing.proofs.put_bytes.Statement.{statement}
+use Rattle.storing.proofs.put_bytes.Tie as tie
 
 abbrev Inv-loop : tie.InvT-loop
-Inv-loop text₀ at bytes to₀ i₀ text to i = (i ≤ length bytes) × Wrote at (take i bytes) text₀ text to × (to ≡ at + i)
+Inv-loop buffer₀ at bytes to₀ i₀ buffer to i = (i ≤ length bytes) × Wrote at (take i bytes) buffer₀ buffer to × (to ≡ at + i)
 
 abbrev μ-loop : tie.MeasureT-loop
-μ-loop text₀ at bytes to₀ i₀ text to i = length bytes - i
+μ-loop buffer₀ at bytes to₀ i₀ buffer to i = length bytes - i
 
 loop-holds : tie.Need-loop-holds Inv-loop μ-loop
 loop-holds c = (omega arith, wrote-none _ _, omega arith)
