@@ -1,0 +1,45 @@
+// The graph of the codes, peeled and assigned in arrays of its own.
+use lists::edges::name_edges;
+use peeling::arrange;
+use records::sizes::MOST_CODES;
+use records::sizes::MOST_VERTICES;
+ghost use Prim.Native.Nat.{ℕ};
+ghost use mathlib.Core.List.{List};
+ghost use Rattle.peeling.specs.Arranging.{Arranged};
+ghost use Rattle.builder.specs.Graphs.{graphOf, Arrangeable};
+
+// The most codes, each with the most vertices.
+const MOST_NAMED: usize = 3_072;
+
+// The number of codes left over; where none is, the values, the rank entries and the codes in the order of their lines stand at the starts of their arrays.
+pub fn arrange_codes(
+    run: &[u8],
+    ends: &[u16],
+    r: usize,
+    v: usize,
+    weights: &[u16],
+    values: &mut [u8],
+    rank: &mut [u16],
+    keys: &mut [u16],
+) -> usize
+    requires { ⌜ Arrangeable r v (now run) (now ends) (now weights) (now values) (now rank) (now keys) ⌝ }
+    ensures { λ left. ⌜ ((buffer : List ℕ) → Arranged (graphOf (now (run .entry)) (now (ends .entry)) r v (now (weights .entry)) buffer) (now (values .exit)) (now (rank .exit)) (now (keys .exit)) left) ⌝ }
+{
+    let mut edges = [0u16; MOST_NAMED];
+    let mut degrees = [0u16; MOST_VERTICES];
+    let mut sums = [0u32; MOST_VERTICES];
+    let mut order = [0u16; MOST_CODES];
+    name_edges(run, ends, r, v, weights, &mut edges);
+    arrange(
+        ends.len(),
+        r,
+        v,
+        &edges,
+        &mut degrees,
+        &mut sums,
+        &mut order,
+        values,
+        rank,
+        keys,
+    )
+}
