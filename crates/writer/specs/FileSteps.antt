@@ -16,7 +16,7 @@ use Rattle.directory.specs.File.{headerRecord, weightRecord, keyRecord, file, f
 use Rattle.directory.specs.FileLaws.{file-size}
 use Rattle.records.specs.Standing.{keyFrom}
 use Rattle.records.specs.StandingLaws.{length-from}
-use Rattle.writer.specs.Ready.{fileIn, Small, Listed, Ready}
+use Rattle.writer.specs.Ready.{fileIn, Small, LineCodes, Ready}
 
 module _ {r v : ℕ} {weights values rank run ends keys buffer : List ℕ} (ready : Ready r v weights values rank run ends keys buffer) where
   abbrev h : Header
@@ -38,7 +38,7 @@ module _ {r v : ℕ} {weights values rank run ends keys buffer : List ℕ} (read
   pub all-small : Small values
   all-small x l = ready .small x (omega (arith, ready .forValues))
 
-  pub all-listed : Listed run ends keys
+  pub all-listed : LineCodes run ends keys
   all-listed = record { isCode = λ l m. ready .isCode l (omega (arith, ready .forKeys)); codes = ready .codes }
 
   -- there is room up to where the KY record of one line more would stand

@@ -1,6 +1,4 @@
 pub mod Ready
-pub mod StartSteps
 pub mod ValueSteps
 pub mod FrontSteps
-pub mod KeySteps
 pub mod FileSteps

@@ -6,10 +6,11 @@ use lib.ListN.{length, getD}
 use Rattle.counting.specs.Holds.{Holds}
 use Rattle.graph.specs.Assignment.{blocks, rankEntry}
 use Rattle.directory.specs.Sizes.{headed}
-use Rattle.directory.specs.Codes.{code, Runs}
+use Rattle.directory.specs.Codes.{code}
 use Rattle.directory.specs.Kind.{HD}
 use Rattle.directory.specs.File.{file, fileLength}
 use Rattle.directory.specs.Whole.{Sized}
+use Rattle.lists.specs.Listed.{Listed}
 
 -- the file with these weights, values and codes; code keys[l] of the list has line l
 abbrev pub fileIn : ℕ → ℕ → List ℕ → List ℕ → List ℕ → List ℕ → List ℕ → List ℕ
@@ -20,9 +21,9 @@ abbrev pub Small : List ℕ → Type 0
 Small values = (x : ℕ) → x < length values → getD values x 0 ≤ 3
 
 -- each line has a code of the list, and each code of the list 1 to 32 bytes of the run
-pub record Listed (run ends keys : List ℕ) : Type 0 where
+pub record LineCodes (run ends keys : List ℕ) : Type 0 where
   pub isCode : (l : ℕ) → l < length keys → getD keys l 0 < length ends
-  pub codes : (k : ℕ) → k < length ends → Runs (HD .positions) run ends k
+  pub codes : Listed run ends
 
 -- the sizes are allowed, each array has the numbers that the file takes from it, and the buffer is long enough
 pub record Ready (r v : ℕ) (weights values rank run ends keys buffer : List ℕ) : Type 0 where
@@ -34,5 +35,5 @@ pub record Ready (r v : ℕ) (weights values rank run ends keys buffer : List �
   pub ranks : Holds (blocks (r * v)) (rankEntry r (λ x. getD values x 0)) rank
   pub forKeys : length keys ≡ length ends
   pub isCode : (l : ℕ) → l < length ends → getD keys l 0 < length ends
-  pub codes : (k : ℕ) → k < length ends → Runs (HD .positions) run ends k
+  pub codes : Listed run ends
   pub room : fileLength HD (headed (length ends) r v) ≤ length buffer

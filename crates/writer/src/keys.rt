@@ -1,6 +1,6 @@
 // The KY records, stored. Each function returns the place past what it wrote. A KY record is the same under every header h.
 use crate::numbers::put_mark;
-use crate::starts::start;
+use lists::ends::code;
 use records::offsets::POSITIONS;
 use storing::put_byte;
 use storing::put_bytes;
@@ -11,10 +11,10 @@ ghost use lib.ListN.{length, getD};
 ghost use Rattle.counting.specs.Lists.{each};
 ghost use Rattle.counting.specs.Wrote.{Wrote};
 ghost use Rattle.directory.specs.Sizes.{Header};
-ghost use Rattle.directory.specs.Codes.{code as codeOf, Runs};
+ghost use Rattle.directory.specs.Codes.{code as codeOf};
 ghost use Rattle.directory.specs.Kind.{HD};
 ghost use Rattle.directory.specs.File.{keyHead, keyRecord};
-ghost use Rattle.writer.specs.Ready.{Listed};
+ghost use Rattle.writer.specs.Ready.{LineCodes};
 
 // A code, under KY: its length, its bytes, and zero after them.
 fn put_key(buffer: &mut [u8], at: usize, code: &[u8]) -> usize
@@ -29,21 +29,9 @@ fn put_key(buffer: &mut [u8], at: usize, code: &[u8]) -> usize
     put_zeros(buffer, filling_at, POSITIONS - code.len())
 }
 
-// Code k of the list, under KY.
-fn put_code(buffer: &mut [u8], at: usize, run: &[u8], ends: &[u16], k: usize) -> usize
-    requires runs { ⌜ (k < length (now ends)) × Runs (HD .positions) (now run) (now ends) k ⌝ }
-    requires room { ⌜ at + (keyHead + HD .positions) ≤ length (now buffer) ⌝ }
-    ensures written { λ to. ⌜ ((h : Header) → Wrote at (keyRecord HD h (codeOf (now (run .entry)) (now (ends .entry)) k)) (now (buffer .entry)) (now (buffer .exit)) to) ⌝ }
-    ensures past { λ to. ⌜ to ≡ at + (keyHead + HD .positions) ⌝ }
-{
-    let from = start(ends, k);
-    let end = start(ends, k + 1);
-    put_key(buffer, at, &run[from..end])
-}
-
 // The codes in the order of their lines: line l has code keys[l].
 pub fn put_keys(buffer: &mut [u8], at: usize, run: &[u8], ends: &[u16], keys: &[u16]) -> usize
-    requires listed { ⌜ Listed (now run) (now ends) (now keys) ⌝ }
+    requires listed { ⌜ LineCodes (now run) (now ends) (now keys) ⌝ }
     requires room { ⌜ at + (keyHead + HD .positions) * length (now keys) ≤ length (now buffer) ⌝ }
     ensures { λ to. ⌜ ((h : Header) → Wrote at (each (length (now (keys .entry))) (λ l. keyRecord HD h (codeOf (now (run .entry)) (now (ends .entry)) (getD (now (keys .entry)) l 0)))) (now (buffer .entry)) (now (buffer .exit)) to) ⌝ }
 {
@@ -51,7 +39,7 @@ pub fn put_keys(buffer: &mut [u8], at: usize, run: &[u8], ends: &[u16], keys: &[
     let mut l = 0;
     while l < keys.len() {
         let k = keys[l] as usize;
-        to = put_code(buffer, to, run, ends, k);
+        to = put_key(buffer, to, code(run, ends, k));
         l += 1;
     }
     to

@@ -1,7 +1,6 @@
 // The file of a built directory, written into a buffer that the caller lends.
 mod numbers; // numbers.rt: marks and numbers
 mod values; // values.rt: the values, four to a byte
-mod starts; // starts.rt: where the codes of a list start
 mod front; // front.rt: the records before KY
 mod keys; // keys.rt: the KY records
 
