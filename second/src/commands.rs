@@ -1,12 +1,12 @@
-//! The commands build, open, lookup, show, list, vectors and trial: what each reads, writes and
-//! says.
+//! The commands build, open, lookup, show, list, vectors, builds and trial: what each reads, writes
+//! and says.
 
 use second::answers::{CODE_LIST, CYCLIC, REPEATED, WEIGHTS};
 use second::header::Header;
 use second::listing::refused;
 use second::text;
 use second::trial::answers;
-use second::vectors::vectors;
+use second::vectors::{builds, vectors};
 use second::{build, length, list, lookup, open, show, CodeList, Found, Refusal};
 use std::ffi::{OsStr, OsString};
 use std::fs;
@@ -19,11 +19,12 @@ const USAGE: &str = "usage:
   second lookup FILE CODE               look a code up (0x before hex digits)
   second show FILE LINE                 show the code of a line in hex
   second list [FILE]                    list all lines (standard input without FILE)
-  second vectors SEED LISTS             write vectors, with this many random lists
+  second vectors SEED LISTS             write vectors of reading, with this many random lists
+  second builds SEED LISTS              write vectors of building, with this many random lists
   second trial [FILE]                   answer vectors (standard input without FILE)";
 
-const COMMANDS: [&str; 7] = [
-    "build", "open", "lookup", "show", "list", "vectors", "trial",
+const COMMANDS: [&str; 8] = [
+    "build", "open", "lookup", "show", "list", "vectors", "builds", "trial",
 ];
 
 /// Exit status of a refusal or of a file that cannot be read or written.
@@ -85,7 +86,8 @@ pub fn run(arguments: &[OsString]) -> Outcome {
         (Some("show"), [file, line]) => show_command(file, line),
         (Some("list"), []) => list_command(None),
         (Some("list"), [file]) => list_command(Some(file)),
-        (Some("vectors"), [seed, lists]) => vectors_command(seed, lists),
+        (Some("vectors"), [seed, lists]) => vectors_command(vectors, seed, lists),
+        (Some("builds"), [seed, lists]) => vectors_command(builds, seed, lists),
         (Some("trial"), []) => trial_command(None),
         (Some("trial"), [file]) => trial_command(Some(file)),
         (Some(known), _) if COMMANDS.contains(&known) => Err(Outcome::wrong_call(&format!(
@@ -246,10 +248,15 @@ fn read_or_input(path: Option<&OsString>) -> Result<Vec<u8>, Outcome> {
     read(path)
 }
 
-fn vectors_command(seed: &OsStr, lists: &OsStr) -> Result<Outcome, Outcome> {
+/// The vectors that are made from a seed and a number of lists.
+fn vectors_command(
+    make: fn(u64, u64) -> String,
+    seed: &OsStr,
+    lists: &OsStr,
+) -> Result<Outcome, Outcome> {
     let seed = decimal(seed, "SEED")?;
     let lists = decimal(lists, "LISTS")?;
-    Ok(Outcome::success(vectors(seed, lists)))
+    Ok(Outcome::success(make(seed, lists)))
 }
 
 fn trial_command(path: Option<&OsString>) -> Result<Outcome, Outcome> {

@@ -1,67 +1,123 @@
-//! The trial: reads vectors (see `vectors`) and writes the answer of each call on a line.
+//! The trial: reads vectors (see `vectors`) and writes the answers of the calls.
 //!
 //! | Call | Answers |
 //! |---|---|
 //! | `O`, `H` | `opened N R V`, `refused NUMBER PLACE` |
 //! | `L` | `at LINE`, `unknown`, `refused NUMBER PLACE` |
 //! | `S` | `shown` and the code in hex, or `nothing` |
+//! | `D` | the same of all of the file |
+//! | `T` | the lister's lines |
+//! | `B` | `built` or `refused NUMBER PLACE`, and two checksums of the whole buffer |
 //! | `N` | `length` and a number, 0 outside the sizes |
 //! | `G` | `group`, the calls that give the number, and what its place names |
 
-use crate::header::{checked_header, Header};
-use crate::listing::refused;
-use crate::refusals::{group, meaning, Group, Meaning};
-use crate::text::{bytes_of_hex, decimal, excerpt, hex};
-use crate::{length, lookup, open, show, Found, Refusal};
+mod checksums;
+mod words;
 
-/// The most bytes of the file under trial, and of a code that is looked up.
+use crate::header::checked_header;
+use crate::text::{bytes_of_hex, decimal, excerpt};
+use crate::{build, length, list, lookup, open, show, CodeList};
+use words::{built, found, grouped, opened, shown};
+
+/// The most bytes of the file under trial and of the run, and of a code that is looked up.
 pub const LONGEST_FILE: usize = 65_536;
 const LONGEST_CODE_ASKED: usize = 4_096;
 
+/// The most ends and weights that are lent.
+const MOST_ENDS: usize = 2_048;
+const MOST_WEIGHTS: usize = 128;
+
+/// What the vectors leave to those that follow: the file under trial, and what is lent to a build.
+#[derive(Default)]
+struct Held {
+    file: Vec<u8>,
+    run: Vec<u8>,
+    ends: Vec<u16>,
+    weights: Vec<u16>,
+}
+
 /// The answers to vectors, or words about the first line that is no vector.
 pub fn answers(vectors: &[u8]) -> Result<String, String> {
-    let mut text = String::new();
-    let mut file = Vec::new();
+    Ok(each_answer(vectors)?.concat())
+}
+
+/// The text that answers each line, empty where there is none.
+pub fn each_answer(vectors: &[u8]) -> Result<Vec<String>, String> {
+    let mut held = Held::default();
+    let mut texts = Vec::new();
     for (k, line) in vectors.split_inclusive(|&byte| byte == b'\n').enumerate() {
         let line = line.strip_suffix(b"\n").unwrap_or(line);
         let no_vector = || format!("line {} is no vector: `{}`", k + 1, excerpt(line));
-        if let Some(answer) = answer(line, &mut file).ok_or_else(no_vector)? {
-            text += &answer;
-            text += "\n";
-        }
+        texts.push(answer(line, &mut held).ok_or_else(no_vector)?);
     }
-    Ok(text)
+    Ok(texts)
 }
 
-/// The answer of a vector, if it is one; a comment and a change to the file have none.
-fn answer(line: &[u8], file: &mut Vec<u8>) -> Option<Option<String>> {
+/// The text that answers a vector, if it is one; a comment and a change have none.
+fn answer(line: &[u8], held: &mut Held) -> Option<String> {
     let words: Vec<&[u8]> = line.split(|&byte| byte == b' ').collect();
-    let (letter, fields) = words.split_first()?;
-    let answer = match (*letter, fields) {
-        (b"#", _) => return Some(None),
-        (b"C", [length]) => return resize(file, length).map(|()| None),
-        (b"P", [place, bytes]) => return put(file, place, bytes).map(|()| None),
+    let (&letter, fields) = words.split_first()?;
+    match (letter, fields) {
+        (b"#", _) => Some(String::new()),
+        (b"T", []) => String::from_utf8(list(&held.file)).ok(),
+        (b"C" | b"P" | b"F" | b"R" | b"Z" | b"E" | b"W", _) => {
+            change(letter, fields, held).map(|()| String::new())
+        }
+        _ => call(letter, fields, held).map(|words| words + "\n"),
+    }
+}
+
+/// Changes what is held.
+fn change(letter: &[u8], fields: &[&[u8]], held: &mut Held) -> Option<()> {
+    match (letter, fields) {
+        (b"C", [length]) => resize(&mut held.file, length)?,
+        (b"P", [place, bytes]) => put(&mut held.file, place, bytes)?,
+        (b"F", [first]) => count_up(&mut held.file, first)?,
+        (b"R", []) => held.run.clear(),
+        (b"R", [bytes]) => held.run = bytes_up_to(LONGEST_FILE, bytes)?,
+        (b"Z", [length]) => resize(&mut held.run, length)?,
+        (b"E", ends) => held.ends = numbers_up_to(MOST_ENDS, ends)?,
+        (b"W", weights) => held.weights = numbers_up_to(MOST_WEIGHTS, weights)?,
+        _ => return None,
+    }
+    Some(())
+}
+
+/// The words that answer a call.
+fn call(letter: &[u8], fields: &[&[u8]], held: &mut Held) -> Option<String> {
+    let file = &mut held.file;
+    Some(match (letter, fields) {
         (b"O", []) => opened(open(file)),
         (b"H", []) => opened(checked_header(file)),
         (b"L", []) => found(lookup(file, b"")),
-        (b"L", [code]) => found(lookup(file, &code_asked(code)?)),
+        (b"L", [code]) => found(lookup(file, &bytes_up_to(LONGEST_CODE_ASKED, code)?)),
         (b"S", [line]) => shown(show(file, decimal(line)?).of(file)),
+        (b"D", []) => shown(file),
+        (b"B", [r, v, length]) => {
+            resize(file, length)?;
+            let list = CodeList {
+                run: &held.run,
+                ends: &held.ends,
+            };
+            let answer = build(&list, decimal(r)?, decimal(v)?, &held.weights, file);
+            built(answer, file)
+        }
         (b"N", [n, r, v]) => {
             let length = length(decimal(n)?, decimal(r)?, decimal(v)?);
             format!("length {}", length.unwrap_or(0))
         }
         (b"G", [number]) => grouped(u8::try_from(decimal(number)?).ok()?),
         _ => return None,
-    };
-    Some(Some(answer))
+    })
 }
 
-fn resize(file: &mut Vec<u8>, length: &[u8]) -> Option<()> {
+/// Cuts bytes to a length, or lengthens them to it with zeros.
+fn resize(bytes: &mut Vec<u8>, length: &[u8]) -> Option<()> {
     let length = usize::try_from(decimal(length)?).ok()?;
     if length > LONGEST_FILE {
         return None;
     }
-    file.resize(length, 0);
+    bytes.resize(length, 0);
     Some(())
 }
 
@@ -74,50 +130,26 @@ fn put(file: &mut [u8], place: &[u8], bytes: &[u8]) -> Option<()> {
     Some(())
 }
 
-fn code_asked(digits: &[u8]) -> Option<Vec<u8>> {
-    let code = bytes_of_hex(digits).ok()?;
-    (code.len() <= LONGEST_CODE_ASKED).then_some(code)
-}
-
-fn opened(answer: Result<Header, Refusal>) -> String {
-    match answer {
-        Ok(Header { n, r, v }) => format!("opened {n} {r} {v}"),
-        Err(refusal) => refused(&refusal),
+/// Makes the bytes of a file a number, the next and so on, each mod 256.
+fn count_up(file: &mut [u8], first: &[u8]) -> Option<()> {
+    let first = usize::from(u8::try_from(decimal(first)?).ok()?);
+    for (place, byte) in file.iter_mut().enumerate() {
+        *byte = ((first + place) % 256) as u8;
     }
+    Some(())
 }
 
-fn found(answer: Found) -> String {
-    match answer {
-        Found::At(line) => format!("at {line}"),
-        Found::Unknown => "unknown".to_string(),
-        Found::Refused(refusal) => refused(&refusal),
+fn bytes_up_to(most: usize, digits: &[u8]) -> Option<Vec<u8>> {
+    let bytes = bytes_of_hex(digits).ok()?;
+    (bytes.len() <= most).then_some(bytes)
+}
+
+fn numbers_up_to(most: usize, words: &[&[u8]]) -> Option<Vec<u16>> {
+    if words.len() > most {
+        return None;
     }
-}
-
-fn shown(code: &[u8]) -> String {
-    if code.is_empty() {
-        "nothing".to_string()
-    } else {
-        format!("shown {}", hex(code))
-    }
-}
-
-fn grouped(number: u8) -> String {
-    let group = match group(number) {
-        Group::Building => "building",
-        Group::Opening => "opening",
-        Group::LookingUp => "looking-up",
-        Group::None => "none",
-    };
-    let meaning = match meaning(number) {
-        Meaning::Nothing => "nothing",
-        Meaning::Code => "code",
-        Meaning::LengthNeeded => "length-needed",
-        Meaning::CodesLeft => "codes-left",
-        Meaning::Offset => "offset",
-        Meaning::Vertex => "vertex",
-        Meaning::RankEntry => "rank-entry",
-        Meaning::Line => "line",
-    };
-    format!("group {group} {meaning}")
+    words
+        .iter()
+        .map(|word| u16::try_from(decimal(word)?).ok())
+        .collect()
 }

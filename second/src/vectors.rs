@@ -1,19 +1,32 @@
-//! Vectors for the trial of a reader: files, and calls on them, as lines of text.
+//! Vectors for the trial of a reader and of a builder: files, what is lent to a build, and the
+//! calls, as lines of text. `vectors` makes those of reading, `builds` those of building.
 //!
 //! | Line | Means |
 //! |---|---|
 //! | `# WORDS` | nothing: says where the next vectors come from |
 //! | `C LENGTH` | the file is cut to this length, or lengthened to it with zeros |
 //! | `P PLACE BYTES` | the file's bytes from this place on become these |
+//! | `F FIRST` | the file's bytes become this number, the next and so on, mod 256 |
 //! | `O`, `H` | open the file; read its header alone |
 //! | `L BYTES` | look a code up; `L` alone, the empty code |
 //! | `S LINE` | show a line |
+//! | `T` | list the file |
+//! | `D` | show every byte of the file |
 //! | `N N R V` | the length of a file |
 //! | `G NUMBER` | the group of a refusal number and what its place means |
+//! | `R BYTES` | the run of the code list becomes these; `R` alone, the empty run |
+//! | `Z LENGTH` | the run is cut to this length, or lengthened to it with zeros |
+//! | `E NUMBERS` | the ends of the code list become these; `E` alone, no ends |
+//! | `W NUMBERS` | the weights become these; `W` alone, no weights |
+//! | `B R V LENGTH` | the file is made so long, as `C` does, and is the buffer of a build |
 //!
-//! Numbers are decimal, up to 18,446,744,073,709,551,615; bytes are lowercase hex. The file is
-//! empty at first and has at most 65,536 bytes, a code at most 4,096. `trial` answers the calls.
+//! Numbers are decimal, up to 18,446,744,073,709,551,615, ends and weights up to 65,535; bytes are
+//! lowercase hex. The file and the run are empty at first and have at most 65,536 bytes, a code
+//! that is looked up at most 4,096. There are at most 2,048 ends and 128 weights, at first none.
+//! What a build leaves in its buffer is the file for the vectors that follow. `trial` answers the
+//! calls.
 
+mod building;
 mod cases;
 mod edges;
 mod faults;
@@ -25,6 +38,8 @@ mod script;
 use crate::header::checked_header;
 use crate::random::Random;
 use script::Script;
+
+pub use building::builds;
 
 /// Lines far past the last: as 32 bits or 64 bits that wrap, some would be line 0 or 1.
 const HUGE_LINES: [u64; 5] = [
@@ -38,7 +53,7 @@ const HUGE_LINES: [u64; 5] = [
 /// Bytes of a KY record.
 const KEY_BYTES: u64 = crate::sizes::KEY_BYTES as u64;
 
-/// The vectors of a seed: those that are the same for every seed, and then this many random lists.
+/// The vectors of reading of a seed: those that are the same for every seed, and then this many random lists.
 pub fn vectors(seed: u64, lists: u64) -> String {
     let mut script = Script::default();
     let mut random = Random::new(seed);

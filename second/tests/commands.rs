@@ -289,12 +289,15 @@ fn vectors_and_their_trial() {
     let made = folder.second(&["vectors", "1", "0"]);
     assert!(made.stdout.starts_with(b"# vectors of seed 1"));
     assert_eq!(made.status.code(), Some(0), "{}", words(&made));
+    let made = folder.second(&["builds", "1", "0"]);
+    assert!(made.stdout.starts_with(b"# vectors of building of seed 1"));
+    assert_eq!(made.status.code(), Some(0), "{}", words(&made));
 }
 
 #[test]
 fn wrong_calls() {
     let folder = Folder::with_directory("wrong");
-    let calls: [(&[&str], &str); 12] = [
+    let calls: [(&[&str], &str); 14] = [
         (&[], "a command is missing"),
         (&["frobnicate"], "unknown command `frobnicate`"),
         (&["build"], "build takes another number of arguments"),
@@ -303,6 +306,8 @@ fn wrong_calls() {
         (&["list", "case1", "case1"], "list takes"),
         (&["vectors", "1"], "vectors takes"),
         (&["vectors", "one", "2"], "SEED is `one`"),
+        (&["builds", "1"], "builds takes"),
+        (&["builds", "1", "two"], "LISTS is `two`"),
         (&["show", "case1", "first"], "LINE is `first`"),
         (&["show", "case1", "+1"], "LINE is `+1`"),
         (

@@ -1,6 +1,9 @@
-//! The vectors of the trial and their answers: what has to occur in them, and the answers that
+//! The vectors of reading and their answers: what has to occur in them, and the answers that
 //! document 01 and the readings give to the vectors that have a name. Those are typed by hand.
 
+mod common;
+
+use common::sections::{answered, kind, number_in, Section};
 use second::trial::answers;
 use second::vectors::vectors;
 use std::collections::{BTreeMap, BTreeSet};
@@ -49,53 +52,14 @@ fn text() -> &'static str {
     TEXT.get_or_init(|| vectors(SEED, LISTS))
 }
 
-/// Calls with their answers, in order, under the comment that stands before them.
-struct Section {
-    words: String,
-    calls: Vec<(String, String)>,
-}
-
 /// The sections of the vectors, answered once for all tests.
 fn sections() -> &'static [Section] {
     static SECTIONS: OnceLock<Vec<Section>> = OnceLock::new();
     SECTIONS.get_or_init(|| answered(text()))
 }
 
-fn answered(vectors: &str) -> Vec<Section> {
-    let answers = answers(vectors.as_bytes()).expect("every line is a vector");
-    let mut answers = answers.lines();
-    let mut sections = Vec::new();
-    for line in vectors.lines() {
-        if let Some(words) = line.strip_prefix("# ") {
-            let words = words.to_string();
-            let calls = Vec::new();
-            sections.push(Section { words, calls });
-        } else if !line.starts_with(['C', 'P']) {
-            let answer = answers.next().expect("an answer to each call");
-            let section = sections.last_mut().expect("a comment comes first");
-            section.calls.push((line.to_string(), answer.to_string()));
-        }
-    }
-    assert_eq!(answers.next(), None, "an answer that belongs to no call");
-    sections
-}
-
-/// The answers of all sections with these words to the calls with this letter.
 fn answers_to(letter: &str, words: &str) -> Vec<&'static str> {
-    sections()
-        .iter()
-        .filter(|section| section.words == words)
-        .flat_map(|section| &section.calls)
-        .filter(|(call, _)| call.starts_with(letter))
-        .map(|(_, answer)| &answer[..])
-        .collect()
-}
-
-/// An answer without its place, its line or its other numbers.
-fn kind(answer: &str) -> String {
-    let words: Vec<&str> = answer.split(' ').collect();
-    let kept = if words[0] == "refused" { 2 } else { 1 };
-    words[..kept].join(" ")
+    common::sections::answers_to(sections(), letter, words)
 }
 
 #[test]
@@ -240,12 +204,6 @@ fn of_two_faults_the_first_is_given() {
     assert_eq!(pairs.len(), 36);
 }
 
-/// The refusal number that stands in brackets at the end of some words.
-fn number_in(words: &str) -> &str {
-    let (_, number) = words.rsplit_once('(').expect("a number in brackets");
-    number.strip_suffix(')').expect("a bracket after it")
-}
-
 /// By document 01's table, row by row; 0 and 17 are no refusals.
 #[test]
 fn groups_and_meanings() {
@@ -293,8 +251,36 @@ fn a_change_and_a_call() {
 #[test]
 fn what_is_no_vector() {
     for line in [
-        "", "Q", "O ", "O 1", "C", "C x", "C 65537", "P 0 00", "P 0", "L 0", "L 0g", "S", "S -1",
-        "N 1 2", "G 256",
+        "",
+        "Q",
+        "O ",
+        "O 1",
+        "C",
+        "C x",
+        "C 65537",
+        "P 0 00",
+        "P 0",
+        "L 0",
+        "L 0g",
+        "S",
+        "S -1",
+        "N 1 2",
+        "G 256",
+        "F",
+        "F 256",
+        "R 0",
+        "R 00 00",
+        "Z",
+        "Z 65537",
+        "E ",
+        "E 65536",
+        "E x",
+        "W 1  1",
+        "B 2 4",
+        "B 2 4 65537",
+        "B 2 4 x",
+        "T 1",
+        "D 1",
     ] {
         let fault = answers(format!("O\n{line}\n").as_bytes()).expect_err("no vector");
         assert_eq!(fault, format!("line 2 is no vector: `{line}`"));

@@ -1,4 +1,6 @@
-// The answers of the calls, as the second program writes them: a line each.
+// The answers of the calls, as the second program writes them.
+use crate::sums::Sums;
+use directory::Built;
 use directory::Found;
 use directory::Opening;
 use directory::PlaceMeaning;
@@ -58,14 +60,32 @@ fn write_bytes(bytes: &[u8]) {
     }
 }
 
-// A code that is shown is never empty.
-pub fn write_shown(code: &[u8]) {
-    if code.len() == 0 {
+// Nothing is shown by no bytes: a code that is shown is never empty.
+pub fn write_shown(bytes: &[u8]) {
+    if bytes.len() == 0 {
         write(b"nothing\n");
         return;
     }
     write(b"shown ");
-    write_bytes(code);
+    write_bytes(bytes);
+    write(b"\n");
+}
+
+// The lister's lines.
+pub fn write_listing(file: &[u8]) {
+    let mut text = listing::text_buffer();
+    let size = listing::list(file, &mut text);
+    write(&text[..size]);
+}
+
+// The answer of a build, and the checksums of its buffer.
+pub fn write_built(built: Built, sums: Sums) {
+    match built {
+        Built::Done => write(b"built"),
+        Built::Refused(number, place) => write_refused(number, place),
+    }
+    write_number(sums.first);
+    write_number(sums.second);
     write(b"\n");
 }
 

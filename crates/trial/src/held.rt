@@ -1,4 +1,28 @@
-// The bytes that the vectors hold: the file under trial and the code that is asked for, each in a buffer with a length of its own.
+// What vectors hold, each in a buffer with a length of its own: the bytes of the file under trial, of the code that is asked for and of the run; the ends and the weights.
+ghost use mathlib.Core.Path.{_≡_};
+ghost use lib.ListN.{length};
+
+// The most ends and weights that are lent.
+const MOST_ENDS: usize = 2048;
+
+const MOST_WEIGHTS: usize = 128;
+
+// The largest byte.
+const MOST_BYTE: u8 = 255;
+
+// Zeros, as many as the most ends. The `ensures` gives only the length, which lending the array as a slice needs.
+pub fn no_ends() -> [u16; MOST_ENDS]
+    ensures { λ ends. ⌜ 2048 ≡ length ends ⌝ }
+{
+    [0; MOST_ENDS]
+}
+
+// The same for weights.
+pub fn no_weights() -> [u16; MOST_WEIGHTS]
+    ensures { λ weights. ⌜ 128 ≡ length weights ⌝ }
+{
+    [0; MOST_WEIGHTS]
+}
 
 // Puts a byte at a place, if the buffer has it.
 fn put(buffer: &mut [u8], at: usize, byte: u8) {
@@ -16,11 +40,36 @@ pub fn clear(buffer: &mut [u8], from: usize, to: usize) {
     }
 }
 
+// The next byte; after the largest comes 0.
+fn next_byte(byte: u8) -> u8 {
+    if byte < MOST_BYTE { byte + 1 } else { 0 }
+}
+
+// The bytes up to a place become this one, the next and so on.
+pub fn count_up(buffer: &mut [u8], first: u8, to: usize) {
+    let mut byte = first;
+    let mut at = 0;
+    while at < to {
+        put(buffer, at, byte);
+        byte = next_byte(byte);
+        at += 1;
+    }
+}
+
 // The beginning of a buffer, all of it where it is shorter.
 pub fn beginning(buffer: &[u8], length: usize) -> &[u8] {
     if length <= buffer.len() {
         &buffer[0..length]
     } else {
         buffer
+    }
+}
+
+// The same of numbers.
+pub fn first_of(numbers: &[u16], count: usize) -> &[u16] {
+    if count <= numbers.len() {
+        &numbers[0..count]
+    } else {
+        numbers
     }
 }

@@ -1,39 +1,58 @@
-// The trial of the reader: reads vectors on standard input (second/src/vectors.rs says what they are), calls the reader, and writes each answer on a line.
+// The trial of the reader and the builder: reads vectors on standard input (second/src/vectors.rs says what they are), makes the calls, and writes the answers.
 mod digits; // digits.rt: digits, and numbers made of them
-mod held; // held.rt: the bytes that vectors hold
+mod held; // held.rt: what vectors hold
 mod reading; // reading.rt: vectors, byte by byte
-mod calls; // calls.rt: the calls that vectors ask for
-mod answers; // answers.rt: the answers, a line each
+mod calls; // calls.rt: what vectors ask for
+mod sums; // sums.rt: checksums of a buffer
+mod answers; // answers.rt: the answers
 
 use calls::step;
+use held::no_ends;
+use held::no_weights;
 use libc::STDIN_FILENO;
 use reading::Trial;
-use reading::fresh;
+use reading::start;
 
 // The most pieces of standard input that are read. Nothing says that the input ends, so the pieces are counted.
 const MOST_PIECES: u32 = 65536;
 
 // Goes through a piece of the vectors.
-fn go_through(start: Trial, piece: &[u8], file: &mut [u8], code: &mut [u8]) -> Trial {
-    let mut trial = start;
+fn go_through(
+    from: Trial,
+    piece: &[u8],
+    file: &mut [u8],
+    code: &mut [u8],
+    run: &mut [u8],
+    ends: &mut [u16],
+    weights: &mut [u16],
+) -> Trial {
+    let mut trial = from;
     let mut i = 0;
     while i < piece.len() {
-        trial = step(trial, piece[i], file, code);
+        let byte = piece[i];
         i += 1;
+        trial = step(trial, byte, file, code, run, ends, weights);
     }
     trial
 }
 
 // Goes through standard input, piece by piece.
-fn run(piece: &mut [u8], file: &mut [u8], code: &mut [u8]) {
-    let mut trial = fresh(0);
+fn go_on(
+    piece: &mut [u8],
+    file: &mut [u8],
+    code: &mut [u8],
+    run: &mut [u8],
+    ends: &mut [u16],
+    weights: &mut [u16],
+) {
+    let mut trial = start();
     let mut pieces = MOST_PIECES;
     while 0 < pieces {
         let n = io::read_full(STDIN_FILENO, piece);
         if n == 0 {
             return;
         }
-        trial = go_through(trial, &piece[..n], file, code);
+        trial = go_through(trial, &piece[..n], file, code, run, ends, weights);
         pieces -= 1;
     }
 }
@@ -42,5 +61,15 @@ fn main() {
     let mut piece = io::large_buffer();
     let mut file = io::large_buffer();
     let mut code = io::buffer();
-    run(&mut piece, &mut file, &mut code);
+    let mut run = io::large_buffer();
+    let mut ends = no_ends();
+    let mut weights = no_weights();
+    go_on(
+        &mut piece,
+        &mut file,
+        &mut code,
+        &mut run,
+        &mut ends,
+        &mut weights,
+    );
 }

@@ -1,5 +1,5 @@
-//! What the vectors are made of: files that are built, files written by hand, and where a code
-//! leads in them.
+//! What the vectors are made of: what is lent to a build, files that are built, files written by
+//! hand, and where a code leads in them.
 
 use crate::file;
 use crate::header::Header;
@@ -7,7 +7,7 @@ use crate::sizes::{KEY_BYTES, LONGEST_CODE, MARK_BYTES, WEIGHTS_OF_A_PART};
 use crate::table::{landing_vertex, line, rank_entries};
 use crate::text::run_and_ends;
 use crate::vertices::vertices;
-use crate::{build, length, CodeList};
+use crate::{build, length, CodeList, Refusal};
 
 /// The codes of document 01's case 1, in list order.
 pub const CASE_1: [&[u8]; 4] = [b"BA", b"BB", b"DA", b"BC"];
@@ -21,22 +21,67 @@ pub fn diagonal(r: usize) -> Vec<u16> {
     weights
 }
 
+/// Everything a build is given; the buffer by its length.
+#[derive(Clone)]
+pub struct Input {
+    pub run: Vec<u8>,
+    pub ends: Vec<u16>,
+    pub r: u64,
+    pub v: u64,
+    pub weights: Vec<u16>,
+    pub room: usize,
+}
+
+impl Input {
+    /// An input with room for the file and no more; without any where the sizes allow no file.
+    pub fn new(codes: &[Vec<u8>], r: u64, v: u64, weights: &[u16]) -> Input {
+        let (run, ends) = run_and_ends(codes);
+        let mut input = Input {
+            run,
+            ends,
+            r,
+            v,
+            weights: weights.to_vec(),
+            room: 0,
+        };
+        input.room = input.needed().unwrap_or(0);
+        input
+    }
+
+    /// The length of the file, if the sizes allow one.
+    pub fn needed(&self) -> Option<usize> {
+        length(self.ends.len() as u64, self.r, self.v)
+    }
+
+    /// The list as it is lent.
+    pub fn list(&self) -> CodeList<'_> {
+        CodeList {
+            run: &self.run,
+            ends: &self.ends,
+        }
+    }
+
+    /// Builds into a buffer.
+    pub fn build(&self, buffer: &mut [u8]) -> Result<(), Refusal> {
+        build(&self.list(), self.r, self.v, &self.weights, buffer)
+    }
+}
+
+pub fn owned(codes: &[&[u8]]) -> Vec<Vec<u8>> {
+    codes.iter().map(|code| code.to_vec()).collect()
+}
+
 /// The file that a list builds, if it builds.
 pub fn built(codes: &[Vec<u8>], r: u64, v: u64, weights: &[u16]) -> Option<Vec<u8>> {
-    let (run, ends) = run_and_ends(codes);
-    let list = CodeList {
-        run: &run,
-        ends: &ends,
-    };
-    let mut file = vec![0; length(codes.len() as u64, r, v)?];
-    build(&list, r, v, weights, &mut file).ok()?;
+    let input = Input::new(codes, r, v, weights);
+    let mut file = vec![0; input.room];
+    input.build(&mut file).ok()?;
     Some(file)
 }
 
 /// The file of a list that is known to build.
 pub fn directory(codes: &[&[u8]], r: u64, v: u64, weights: &[u16]) -> Vec<u8> {
-    let codes: Vec<Vec<u8>> = codes.iter().map(|code| code.to_vec()).collect();
-    built(&codes, r, v, weights).expect("the list builds")
+    built(&owned(codes), r, v, weights).expect("the list builds")
 }
 
 pub fn case_1_file() -> Vec<u8> {

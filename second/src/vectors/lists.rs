@@ -35,7 +35,7 @@ pub fn write(script: &mut Script, random: &mut Random, lists: u64) {
 fn around(script: &mut Script, random: &mut Random, file: &[u8], codes: &[Vec<u8>]) {
     let lent: Vec<&[u8]> = codes.iter().map(|code| &code[..]).collect();
     read_all(script, file, &lent);
-    for code in strangers(codes, random) {
+    for code in strangers(&lent, random) {
         script.lookup(&code);
     }
     script.show(random.one_of(&HUGE_LINES));
@@ -108,9 +108,9 @@ fn different_codes(count: usize, random: &mut Random) -> Vec<Vec<u8>> {
     codes
 }
 
-/// Codes that are near to listed ones, and codes at random.
-fn strangers(codes: &[Vec<u8>], random: &mut Random) -> Vec<Vec<u8>> {
-    let listed = &codes[random.index(codes.len())];
+/// Codes that are near to one of these, and codes at random.
+pub fn strangers(codes: &[&[u8]], random: &mut Random) -> Vec<Vec<u8>> {
+    let listed = codes[random.index(codes.len())];
     let shorter = listed[..listed.len() - 1].to_vec();
     let longer = [listed, &[0][..]].concat();
     let place = random.index(listed.len());

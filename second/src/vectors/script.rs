@@ -1,6 +1,9 @@
-//! The text of the vectors: what turns one file into the next, and the calls.
+//! The text of the vectors: what turns one file into the next, what is lent to a build, and the
+//! calls.
 
+use super::inputs::Input;
 use crate::text::hex;
+use crate::Refusal;
 
 /// The most bytes that one line puts into the file.
 const MOST_OF_A_LINE: usize = 64;
@@ -8,11 +11,14 @@ const MOST_OF_A_LINE: usize = 64;
 /// that is shorter than another line.
 const GAP: usize = 5;
 
-/// The vectors so far, and the file as they leave it.
+/// The vectors so far, and what they leave: the file, and what is lent to a build.
 #[derive(Default)]
 pub struct Script {
     text: String,
     file: Vec<u8>,
+    run: Vec<u8>,
+    ends: Vec<u16>,
+    weights: Vec<u16>,
 }
 
 impl Script {
@@ -29,6 +35,11 @@ impl Script {
         self.line(&format!("# {words}"));
     }
 
+    /// Empties the file, whatever other vectors have left.
+    pub fn start(&mut self) {
+        self.line("C 0");
+    }
+
     /// Makes the file these bytes, by the shorter of two ways: from what it is, or from nothing.
     pub fn file(&mut self, wanted: &[u8]) {
         let from_this = changes(&self.file, wanted);
@@ -39,6 +50,75 @@ impl Script {
             &from_nothing
         };
         self.file = wanted.to_vec();
+    }
+
+    /// The file as the vectors leave it.
+    pub fn left(&self) -> &[u8] {
+        &self.file
+    }
+
+    /// Makes the file so long, with bytes that count up from this one: none is like its
+    /// neighbours, and few are zero.
+    pub fn colour(&mut self, length: usize, first: u8) {
+        let coloured: Vec<u8> = (0..length)
+            .map(|place| first.wrapping_add(place as u8))
+            .collect();
+        if self.file == coloured {
+            return;
+        }
+        if self.file.len() != length {
+            self.line(&format!("C {length}"));
+        }
+        self.line(&format!("F {first}"));
+        self.file = coloured;
+    }
+
+    /// Builds into the file, and gives back what the build answers. The file is left as the build
+    /// leaves its buffer.
+    pub fn build(&mut self, input: &Input) -> Result<(), Refusal> {
+        self.lend(input);
+        self.line(&format!("B {} {} {}", input.r, input.v, input.room));
+        self.file.resize(input.room, 0);
+        input.build(&mut self.file)
+    }
+
+    /// Lends what is not lent already.
+    fn lend(&mut self, input: &Input) {
+        if self.run != input.run {
+            self.run = input.run.clone();
+            self.lend_run();
+        }
+        if self.ends != input.ends {
+            self.ends = input.ends.clone();
+            self.line(&numbers("E", &input.ends));
+        }
+        if self.weights != input.weights {
+            self.weights = input.weights.clone();
+            self.line(&numbers("W", &input.weights));
+        }
+    }
+
+    /// The run; where it ends in many zeros, they go by their number.
+    fn lend_run(&mut self) {
+        let length = self.run.len();
+        let zeros = self.run.iter().rev().take_while(|&&byte| byte == 0).count();
+        let written = if zeros > MOST_OF_A_LINE {
+            length - zeros
+        } else {
+            length
+        };
+        self.line(format!("R {}", hex(&self.run[..written])).trim_end());
+        if written < length {
+            self.line(&format!("Z {length}"));
+        }
+    }
+
+    pub fn dump(&mut self) {
+        self.line("D");
+    }
+
+    pub fn list(&mut self) {
+        self.line("T");
     }
 
     pub fn open(&mut self) {
@@ -64,6 +144,15 @@ impl Script {
     pub fn group(&mut self, number: u8) {
         self.line(&format!("G {number}"));
     }
+}
+
+/// A letter and numbers.
+fn numbers(letter: &str, numbers: &[u16]) -> String {
+    let mut line = letter.to_string();
+    for number in numbers {
+        line += &format!(" {number}");
+    }
+    line
 }
 
 /// The lines that turn a file into the one that is wanted: its length first, then its bytes.

@@ -2,6 +2,8 @@
 //! list and file, and lists of the most codes. Each test file uses a part of it.
 #![allow(dead_code)]
 
+pub mod sections;
+
 use second::text::run_and_ends;
 use second::{build, length, open, CodeList, Header, Refusal};
 
