@@ -12,14 +12,13 @@ use Rattle.counting.specs.SearchLaws.{lowest-found, lowest-missed}
 use Rattle.graph.specs.Peeling.{numberLeft}
 use Rattle.directory.specs.declared.Built.{Built}
 use Rattle.directory.specs.declared.Built.the-variants.{Done, Refused}
-use Rattle.directory.specs.Sizes.{mostCodes, arityAllowed, partAllowed, codesAllowed, headed, headerAllowed}
+use Rattle.directory.specs.Sizes.{mostCodes, arityAllowed, partAllowed, codesAllowed, headerAllowed}
 use Rattle.directory.specs.Codes.{code, wrongCode, runMissed, repeated}
 use Rattle.directory.specs.Kind.{HD}
 use Rattle.directory.specs.Refusals.{first, NoneApplies}
 use Rattle.directory.specs.RefusalLaws.{given-more, first-past, first-none}
 use Rattle.directory.specs.Building.{Lent, codeOf, graph, lengthNeeded, lentRefusals, graphRefusals, buildRefusals, build, bufferAfter}
 use Rattle.directory.specs.RepeatedLaws.{none-repeated}
-use Rattle.directory.specs.WholeLaws.{sized-true}
 use Rattle.directory.specs.Lending.{WithinLimits}
 use Rattle.directory.specs.LendingLaws.{limits}
 use Rattle.directory.specs.BuildingLaws.{by-done, by-refused, build-refused, after-refused}
@@ -27,7 +26,7 @@ use Rattle.directory.specs.NumberLaws.{build-paper}
 use Rattle.directory.specs.Answers.{builtNumbers}
 use Rattle.directory.specs.Calls.{buildOf, bufferAfterOf, buildNumbersOf}
 use Rattle.records.specs.Standing.{Room}
-use Rattle.records.specs.FramedLaws.{sized-room}
+use Rattle.records.specs.FramedLaws.{allowed-room}
 use Rattle.builder.specs.Decisions.{ofLent, ofGraph, withFile, afterGraph}
 
 module _ (I : Lent) where
@@ -41,7 +40,7 @@ module _ (I : Lent) where
   -- the length can be computed
   pub sizes-room : codesAllowed n ≡ true → arityAllowed r ≡ true → partAllowed r v ≡ true → Room r v × (n ≤ mostCodes)
   unfolding headerAllowed
-  sizes-room few arity part = let s = sized-true (headed n r v) (and-both (and-both few arity) part) in (sized-room n r v s, s .few)
+  sizes-room few arity part = allowed-room n r v (and-both (and-both few arity) part)
 
   pub wrong-arity : arityAllowed r ≡ false → Refused 1 0 ≡ ofLent I
   unfolding first lentRefusals

@@ -1,4 +1,4 @@
--- What the sizes, the length of a file and the header call give, test by test, with the numbers as the code has them. Assumes nothing.
+-- What the length of a file and the header call give, test by test, with the numbers as the code has them. Assumes nothing.
 use mathlib.Core.Path.{_≡_, sym, _∙_}
 use mathlib.Core.Logic.{_≢_}
 use mathlib.Core.Bool.{true, false}
@@ -7,7 +7,7 @@ use Prim.Native.Nat.{ℕ, _≤_, _<_}
 use lib.ListN.{length}
 use borrow.Author.Tests.{ne-eqb, lt-ltb, le-ltb}
 use Rattle.directory.specs.declared.Opening.the-variants.{Opened, Refused}
-use Rattle.directory.specs.Sizes.{headed, mostCodes, headerAllowed}
+use Rattle.directory.specs.Sizes.{headed, headerAllowed}
 use Rattle.directory.specs.Kind.{HD}
 use Rattle.directory.specs.Bytes.{marked}
 use Rattle.directory.specs.Refusals.{first}
@@ -16,14 +16,8 @@ use Rattle.directory.specs.WholeLaws.{sized-true}
 use Rattle.directory.specs.Opening.{headerRefusals, openedUnless, header}
 use Rattle.directory.specs.OpeningLaws.{header-opened}
 use Rattle.directory.specs.Calls.{lengthOf, headerOf}
-use Rattle.records.specs.Standing.{Room, keyFrom}
+use Rattle.records.specs.Standing.{keyFrom}
 use Rattle.records.specs.StandingLaws.{length-from}
-use Rattle.records.specs.FramedLaws.{sized-room}
-
--- ---- the sizes
-
-pub allowed-room : (n r v : ℕ) → headerAllowed (headed n r v) ≡ true → Room r v × (n ≤ mostCodes)
-allowed-room n r v t = let s = sized-true (headed n r v) t in (sized-room n r v s, s .few)
 
 -- ---- the length of a file
 

@@ -6,7 +6,7 @@ ghost use Rattle.counting.specs.Widths.{oneByte, twoBytes};
 ghost use Rattle.directory.specs.Bytes.{byteAt, twoAt, marked as markedAt};
 
 // So many numbers does a byte hold.
-const BYTE: usize = 256;
+pub const BYTE: usize = 256;
 
 // A byte, as a number.
 pub fn byte(file: &[u8], at: usize) -> usize

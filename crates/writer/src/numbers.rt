@@ -1,4 +1,5 @@
 // Marks and numbers, stored. Each function returns the place past what it wrote.
+use records::numbers::BYTE;
 use storing::put_byte;
 ghost use mathlib.Core.Path.{_≡_};
 ghost use mathlib.Core.List.{[], _∷_};
@@ -8,9 +9,6 @@ ghost use Rattle.counting.specs.Lists.{each};
 ghost use Rattle.counting.specs.Widths.{twoBytes};
 ghost use Rattle.counting.specs.Wrote.{Wrote};
 ghost use Rattle.directory.specs.Bytes.{two, markLength};
-
-// So many numbers does a byte hold.
-const BYTE: usize = 256;
 
 // The two letters of a mark.
 pub fn put_mark(buffer: &mut [u8], at: usize, a: u8, b: u8) -> usize

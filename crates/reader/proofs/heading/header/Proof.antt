@@ -11,7 +11,8 @@ use Rattle.directory.specs.Kind.{HD}
 use Rattle.directory.specs.Bytes.{marked}
 use Rattle.directory.specs.File.{headerIn}
 use Rattle.reader.specs.Papers.{header-given}
-use Rattle.reader.specs.HeadingLaws.{allowed-room, heading-short, heading-unmarked, heading-disallowed, heading-length, heading-is}
+use Rattle.records.specs.FramedLaws.{allowed-room}
+use Rattle.reader.specs.HeadingLaws.{heading-short, heading-unmarked, heading-disallowed, heading-length, heading-is}
 use Rattle.reader.proofs.heading.header.Statement.{statement}
 use Rattle.reader.proofs.heading.header.Tie as tie
 

@@ -1,7 +1,8 @@
 -- `reader::sizes::length` meets its contract. Assumes nothing.
 use mathlib.Core.Path.{sym, _∙_}
 use borrow.Author.Needs.{needs}
-use Rattle.reader.specs.HeadingLaws.{allowed-room, length-allowed, length-disallowed}
+use Rattle.records.specs.FramedLaws.{allowed-room}
+use Rattle.reader.specs.HeadingLaws.{length-allowed, length-disallowed}
 use Rattle.reader.proofs.sizes.length.Statement.{statement}
 use Rattle.reader.proofs.sizes.length.Tie as tie
 
