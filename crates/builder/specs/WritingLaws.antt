@@ -1,21 +1,18 @@
 -- From the arrays to the file: they are ready to be written, and what is written is the file of the list. Assumes nothing.
 use mathlib.Core.Path.{_≡_, refl, sym, ap, _∙_}
 use mathlib.Core.List.{List}
-use Prim.Native.Nat.{ℕ, _*_, _≤_, _<_}
+use Prim.Native.Nat.{ℕ, _*_, _<_}
 use native.Mathlib.Omega.{arith}
 use lib.ListN.{length, getD, take}
 use lib.Seq.{length-take-le}
 use Rattle.counting.specs.HoldsLaws.{holds-take}
-use Rattle.graph.specs.Graph.{Proper}
 use Rattle.graph.specs.Assignment.{blocks, blockSize, rankEntry, values, edgeOfLine}
-use Rattle.graph.specs.AssignmentLaws.{values-most}
 use Rattle.graph.specs.RankLaws.{below-equal}
-use Rattle.graph.specs.LineLaws.{edge-line}
 use Rattle.directory.specs.Sizes.{headed}
 use Rattle.directory.specs.Codes.{code}
 use Rattle.directory.specs.Kind.{HD}
 use Rattle.directory.specs.Building.{lent, weight, codeOf, graph, key, fileOf}
-use Rattle.directory.specs.GraphLaws.{graph-proper}
+use Rattle.directory.specs.FileWholeLaws.{edge-below, small}
 use Rattle.directory.specs.SameFileLaws.{same-file}
 use Rattle.writer.specs.Ready.{Ready, fileIn}
 use Rattle.builder.specs.Graphs.{graphOf, Writable}
@@ -39,17 +36,6 @@ module _ (run ends : List ℕ) (r v : ℕ) (weights buffer values′ rank keys :
   unfolding graph
   of-keys = holds-take n _ keys (w .lined .ofKeys)
 
-  proper : Proper (graphOf run ends r v weights buffer)
-  proper = graph-proper HD (lent run ends r v weights buffer) (omega (arith, w .within .sizes .two)) (w .within .sizes .some)
-
-  value-most : (x : ℕ) → values (graphOf run ends r v weights buffer) x ≤ r
-  unfolding graph
-  value-most x = values-most (graphOf run ends r v weights buffer) x
-
-  key-code : (l : ℕ) → l < n → edgeOfLine (graphOf run ends r v weights buffer) l < n
-  unfolding graph
-  key-code l a = edge-line (graphOf run ends r v weights buffer) proper (w .nothing) l a .0
-
   pub ready : Ready r v weights (take m values′) (take (blocks m) rank) run ends (take n keys) buffer
   unfolding rankEntry
   ready =
@@ -57,11 +43,11 @@ module _ (run ends : List ℕ) (r v : ℕ) (weights buffer values′ rank keys :
         sizes = w .within .sizes;
         weighed = w .within .weighed;
         forValues = length-take-le m values′ (w .forValues);
-        small = λ x l. omega (arith, of-values x l, value-most x, w .within .sizes .three);
+        small = λ x l. rw (of-values x l) (small HD _ (w .within) (w .nothing) x);
         forRank = length-take-le (blocks m) rank (w .forRank);
         ranks = λ i l. of-rank i l ∙ below-equal r _ _ (blockSize * i) (λ x k. sym (of-values x (omega arith)));
         forKeys = length-take-le n keys (w .forKeys);
-        isCode = λ l k. rw (of-keys l k) (key-code l k);
+        isCode = λ l k. rw (of-keys l k) (edge-below HD _ (w .within) (w .nothing) l k);
         codes = w .within .codes;
         room = w .within .room;
       }

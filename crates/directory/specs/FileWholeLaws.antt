@@ -72,7 +72,7 @@ module _ (K : Kind) (I : Lent) (w : WithinLimits K I) (nothing : numberLeft (gra
   unfolding codeOf
   code-bytes k l = let c = w .codes k l in let e = code-length positions run ends k c in (omega (arith, c .some), omega (arith, c .short))
 
-  edge-below : (l : ℕ) → l < n → edgeOfLine G l < n
+  pub edge-below : (l : ℕ) → l < n → edgeOfLine G l < n
   unfolding graph
   edge-below l m = edge-line G proper nothing l m .0
 
@@ -89,7 +89,7 @@ module _ (K : Kind) (I : Lent) (w : WithinLimits K I) (nothing : numberLeft (gra
 
   -- ---- the file is whole
 
-  small : (x : ℕ) → values G x ≤ 3
+  pub small : (x : ℕ) → values G x ≤ 3
   unfolding graph
   small x = omega (arith, values-most G x, w .sizes .three)
 
