@@ -12,7 +12,7 @@ ghost use Rattle.builder.specs.Graphs.{graphOf, Arrangeable};
 const MOST_NAMED: usize = 3_072;
 
 // The number of codes left over; where none is, the values, the rank entries and the codes in the order of their lines stand at the starts of their arrays.
-pub fn arrange_codes(
+pub(crate) fn arrange_codes(
     run: &[u8],
     ends: &[u16],
     r: usize,

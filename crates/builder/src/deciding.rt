@@ -49,7 +49,7 @@ fn write(
 }
 
 // The answer to what is within the limits. All is decided before the first byte is written. Equal codes are always left over, so they are looked for only where codes are.
-pub fn build_within(
+pub(crate) fn build_within(
     run: &[u8],
     ends: &[u16],
     r: usize,

@@ -18,7 +18,7 @@ ghost use Rattle.directory.specs.Building.{lent};
 ghost use Rattle.builder.specs.Decisions.{ofLent};
 
 // The first of the refusals 1 to 6 that applies, or Done where none does.
-pub fn refused_lent(
+pub(crate) fn refused_lent(
     run: &[u8],
     ends: &[u16],
     r: usize,
