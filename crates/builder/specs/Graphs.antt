@@ -28,7 +28,7 @@ pub record Arrangeable (r v : ℕ) (run ends weights values rank keys : List ℕ
   pub forKeys : length ends ≤ length keys
 
 -- no code is left over, the arrays hold what is to be written, and it fits the buffer
-pub record Writable (I : Lent) (values rank keys : List ℕ) : Type 0 where
+pub record Settled (I : Lent) (values rank keys : List ℕ) : Type 0 where
   pub within : WithinLimits HD I
   pub nothing : numberLeft (graph HD I) ≡ 0
   pub lined : Lined (graph HD I) values rank keys

@@ -15,9 +15,9 @@ use Rattle.directory.specs.Building.{lent, weight, codeOf, graph, key, fileOf}
 use Rattle.directory.specs.FileWholeLaws.{edge-below, small}
 use Rattle.directory.specs.SameFileLaws.{same-file}
 use Rattle.writer.specs.Ready.{Ready, fileIn}
-use Rattle.builder.specs.Graphs.{graphOf, Writable}
+use Rattle.builder.specs.Graphs.{graphOf, Settled}
 
-module _ (run ends : List ℕ) (r v : ℕ) (weights buffer values′ rank keys : List ℕ) (w : Writable (lent run ends r v weights buffer) values′ rank keys) where
+module _ (run ends : List ℕ) (r v : ℕ) (weights buffer values′ rank keys : List ℕ) (w : Settled (lent run ends r v weights buffer) values′ rank keys) where
   abbrev m : ℕ
   m = r * v
 
@@ -36,6 +36,9 @@ module _ (run ends : List ℕ) (r v : ℕ) (weights buffer values′ rank keys :
   unfolding graph
   of-keys = holds-take n _ keys (w .lined .ofKeys)
 
+  code-of-line : (l : ℕ) → l < n → getD (take n keys) l 0 < n
+  code-of-line l k = rw (of-keys l k) (edge-below HD _ (w .within) (w .nothing) l k)
+
   pub ready : Ready r v weights (take m values′) (take (blocks m) rank) run ends (take n keys) buffer
   unfolding rankEntry
   ready =
@@ -43,12 +46,11 @@ module _ (run ends : List ℕ) (r v : ℕ) (weights buffer values′ rank keys :
         sizes = w .within .sizes;
         weighed = w .within .weighed;
         forValues = length-take-le m values′ (w .forValues);
-        small = λ x l. rw (of-values x l) (small HD _ (w .within) (w .nothing) x);
+        small = λ x l. rw (of-values x (omega (arith, length-take-le m values′ (w .forValues)))) (small HD _ (w .within) (w .nothing) x);
         forRank = length-take-le (blocks m) rank (w .forRank);
         ranks = λ i l. of-rank i l ∙ below-equal r _ _ (blockSize * i) (λ x k. sym (of-values x (omega arith)));
         forKeys = length-take-le n keys (w .forKeys);
-        isCode = λ l k. rw (of-keys l k) (edge-below HD _ (w .within) (w .nothing) l k);
-        codes = w .within .codes;
+        lines = record { isCode = λ l k. code-of-line l (omega (arith, length-take-le n keys (w .forKeys))); codes = w .within .codes };
         room = w .within .room;
       }
 

@@ -13,7 +13,7 @@ ghost use Rattle.directory.specs.Kind.{HD};
 ghost use Rattle.directory.specs.Building.{lent};
 ghost use Rattle.directory.specs.Lending.{WithinLimits};
 ghost use Rattle.builder.specs.Decisions.{ofGraph, afterGraph, withFile};
-ghost use Rattle.builder.specs.Graphs.{Writable};
+ghost use Rattle.builder.specs.Graphs.{Settled};
 
 // A rank entry for each block of vertices.
 const MOST_BLOCKS: usize = 64;
@@ -30,7 +30,7 @@ fn write(
     keys: &[u16],
     buffer: &mut [u8],
 )
-    requires { ⌜ Writable (lent (now run) (now ends) r v (now weights) (now buffer)) (now values) (now rank) (now keys) ⌝ }
+    requires { ⌜ Settled (lent (now run) (now ends) r v (now weights) (now buffer)) (now values) (now rank) (now keys) ⌝ }
     ensures { λ _. ⌜ now (buffer .exit) ≡ withFile (lent (now (run .entry)) (now (ends .entry)) r v (now (weights .entry)) (now (buffer .entry))) ⌝ }
 {
     let m = r * v;

@@ -16,7 +16,7 @@ use Rattle.directory.specs.File.{headerRecord, weightRecord, keyRecord, file, f
 use Rattle.directory.specs.FileLaws.{file-size}
 use Rattle.records.specs.Standing.{keyFrom}
 use Rattle.records.specs.StandingLaws.{length-from}
-use Rattle.writer.specs.Ready.{fileIn, Small, LineCodes, Ready}
+use Rattle.writer.specs.Ready.{fileIn, Ready}
 
 module _ {r v : ℕ} {weights values rank run ends keys buffer : List ℕ} (ready : Ready r v weights values rank run ends keys buffer) where
   abbrev h : Header
@@ -32,14 +32,7 @@ module _ {r v : ℕ} {weights values rank run ends keys buffer : List ℕ} (read
   key l = code run ends (getD keys l 0)
 
   short : (l : ℕ) → l < length ends → length (key l) ≤ HD .positions
-  short l m = let k = getD keys l 0 in let c = ready .codes k (ready .isCode l m) in omega (arith, code-length (HD .positions) run ends k c, c .short)
-
-  -- what the functions of the values and of the codes need
-  pub all-small : Small values
-  all-small x l = ready .small x (omega (arith, ready .forValues))
-
-  pub all-listed : LineCodes run ends keys
-  all-listed = record { isCode = λ l m. ready .isCode l (omega (arith, ready .forKeys)); codes = ready .codes }
+  short l m = let k = getD keys l 0 in let c = ready .lines .codes k (ready .lines .isCode l (omega (arith, ready .forKeys))) in omega (arith, code-length (HD .positions) run ends k c, c .short)
 
   -- there is room up to where the KY record of one line more would stand
   pub fits : keyFrom r v (length ends) ≤ length buffer

@@ -30,10 +30,9 @@ pub record Ready (r v : ℕ) (weights values rank run ends keys buffer : List �
   pub sizes : Sized (headed (length ends) r v)
   pub weighed : length weights ≡ HD .positions * r
   pub forValues : length values ≡ r * v
-  pub small : (x : ℕ) → x < r * v → getD values x 0 ≤ 3
+  pub small : Small values
   pub forRank : length rank ≡ blocks (r * v)
   pub ranks : Holds (blocks (r * v)) (rankEntry r (λ x. getD values x 0)) rank
   pub forKeys : length keys ≡ length ends
-  pub isCode : (l : ℕ) → l < length ends → getD keys l 0 < length ends
-  pub codes : Listed run ends
+  pub lines : LineCodes run ends keys
   pub room : fileLength HD (headed (length ends) r v) ≤ length buffer

@@ -4,7 +4,7 @@ use lib.ListN.{length}
 use borrow.Author.Needs.{needs}
 use Rattle.counting.specs.WroteLaws.{wrote-then}
 use Rattle.directory.specs.Sizes.{headed}
-use Rattle.writer.specs.FileSteps.{all-small, all-listed, fits, filled}
+use Rattle.writer.specs.FileSteps.{fits, filled}
 use Rattle.writer.proofs.put_file.Statement.{statement}
 use Rattle.writer.proofs.put_file.Tie as tie
 
@@ -44,13 +44,13 @@ put-weights-requires : tie.Need-put-weights-requires
 put-weights-requires c κs = let s = first (second c .before) in omega (arith, fits (s .pre))
 
 put-values-requires : tie.Need-put-values-requires
-put-values-requires c κs = let s = first (second (third c .before) .before) in (all-small (s .pre), (omega arith, omega (arith, fits (s .pre))))
+put-values-requires c κs = let s = first (second (third c .before) .before) in (s .pre .small, (omega arith, omega (arith, fits (s .pre))))
 
 put-ranks-requires : tie.Need-put-ranks-requires
 put-ranks-requires c κs = let s = first (second (third (fourth c .before) .before) .before) in omega (arith, fits (s .pre))
 
 put-keys-requires : tie.Need-put-keys-requires
-put-keys-requires c κs = let s = first (second (third (fourth (fifth c .before) .before) .before) .before) in (all-listed (s .pre), omega (arith, fits (s .pre)))
+put-keys-requires c κs = let s = first (second (third (fourth (fifth c .before) .before) .before) .before) in (s .pre .lines, omega (arith, fits (s .pre)))
 
 same-length : tie.Need-same-length
 same-length c = search needs
