@@ -1,4 +1,4 @@
--- One turn of each loop that reads: the sum of a code, the vertices and their values, the assigned values, the bytes of a code. Assumes nothing.
+-- One turn of each loop that reads: the values of the vertices, the assigned values, the bytes of a code. Assumes nothing.
 use mathlib.Core.Path.{_≡_, refl, sym, ap, _∙_}
 use mathlib.Core.Logic.{_≢_}
 use mathlib.Core.Bool.{not}
@@ -22,56 +22,22 @@ use Rattle.directory.specs.Kind.{HD, codeSum, vertex}
 use Rattle.directory.specs.Values.{valueIn}
 use Rattle.records.specs.Standing.{mostBytes, bytesFrom, weightOf, valuesFrom}
 
--- ---- the sum of a code
+-- ---- the values of the vertices
 
--- a byte times a weight is at most this
-abbrev pub largestTerm : ℕ
-largestTerm = 16_711_425
+-- the sum of the values of the first j of these vertices
+unfoldable pub valuesTo : List ℕ → ℕ → List ℕ → ℕ → ℕ
+valuesTo f r vertices j = sum j (λ j. valueIn (bytesFrom f (valuesFrom r)) (getD vertices j 0))
 
--- the first i terms of the sum of code t for part j, under any weights
-unfoldable pub termsOf : (ℕ → ℕ) → List ℕ → ℕ → ℕ → ℕ
-termsOf weight t j i = sum i (λ i. (getD t i 0 + HD .plus) * weight (mostBytes * j + i))
-
-pub term-most : (b w : ℕ) → b < oneByte → w < twoBytes → b * w ≤ largestTerm
-term-most b w h k = let p : b ≤ 255 = omega arith in let q : w ≤ 65535 = omega arith in mul-le-mul p q
-
-module _ (weight : ℕ → ℕ) (t : List ℕ) (j : ℕ) where
-  pub terms-none : termsOf weight t j 0 ≡ 0
-  unfolding termsOf sum
-  terms-none = refl
-
-  pub terms-next : (i b w : ℕ) → b ≡ getD t i 0 → w ≡ weight (mostBytes * j + i) → termsOf weight t j (i + 1) ≡ termsOf weight t j i + b * w
-  unfolding termsOf
-  terms-next i b w e d = let a : b ≡ getD t i 0 + 0 = omega arith in sum-next i (λ i. (getD t i 0 + 0) * weight (mostBytes * j + i)) ∙ rw (a, d)
-
-  pub terms-all : termsOf weight t j (length t) ≡ codeSum HD weight t j
-  unfolding termsOf codeSum
-  terms-all = refl
-
--- weight i of part j, from where the weights of the part begin
-pub weight-from : (f : List ℕ) (j i w : ℕ) → w ≡ twoAt f (valuesFrom j + 2 * i) → w ≡ weightOf f (mostBytes * j + i)
-weight-from f j i w e = let at : valuesFrom j + 2 * i ≡ 7 + (2 + 2 * (mostBytes * j + i)) = omega arith in e ∙ ap (twoAt f) at
-
--- ---- the vertices of a code and their values
-
--- vertex j of code t
-abbrev pub vertexIn : List ℕ → ℕ → List ℕ → ℕ → ℕ
-vertexIn f v t = vertex HD v (weightOf f) t
-
--- the sum of the values of its first j vertices
-unfoldable pub valuesTo : List ℕ → ℕ → ℕ → List ℕ → ℕ → ℕ
-valuesTo f r v t j = sum j (λ j. valueIn (bytesFrom f (valuesFrom r)) (vertexIn f v t j))
-
-module _ (f : List ℕ) (r v : ℕ) (t : List ℕ) where
-  pub values-none : valuesTo f r v t 0 ≡ 0
+module _ (f : List ℕ) (r : ℕ) (vertices : List ℕ) where
+  pub values-none : valuesTo f r vertices 0 ≡ 0
   unfolding valuesTo sum
   values-none = refl
 
-  pub values-next : (j x k : ℕ) → x ≡ vertexIn f v t j → k ≡ valueIn (bytesFrom f (valuesFrom r)) x → valuesTo f r v t (j + 1) ≡ valuesTo f r v t j + k
+  pub values-next : (j k : ℕ) → k ≡ valueIn (bytesFrom f (valuesFrom r)) (getD vertices j 0) → valuesTo f r vertices (j + 1) ≡ valuesTo f r vertices j + k
   unfolding valuesTo
-  values-next j x k e d = sum-next j (λ j. valueIn (bytesFrom f (valuesFrom r)) (vertexIn f v t j)) ∙ rw (d, e)
+  values-next j k d = sum-next j (λ j. valueIn (bytesFrom f (valuesFrom r)) (getD vertices j 0)) ∙ rw d
 
-  pub values-all : valuesTo f r v t r ≡ sum r (λ j. valueIn (bytesFrom f (valuesFrom r)) (vertexIn f v t j))
+  pub values-all : valuesTo f r vertices r ≡ sum r (λ j. valueIn (bytesFrom f (valuesFrom r)) (getD vertices j 0))
   unfolding valuesTo
   values-all = refl
 
