@@ -8,14 +8,17 @@ use Rattle.directory.specs.Calls.{openOf}
 use Rattle.opened.specs.declared.numbering.Numbers.{Numbers}
 use Rattle.opened.specs.declared.Opened.{Opened}
 
--- the numbers that an answer of opening gives: a refusal gives none, which is 0, 0 and 0
+abbrev pub numbered : ℕ → ℕ → ℕ → Numbers
+numbered n r v = record { n = n; r = r; v = v }
+
+-- those that opening gives: a refusal has none, and leaves them 0
 abbrev pub numbersIn : Opening → Numbers
-numbersIn (opening.Opened n r v) = record { n = n; r = r; v = v }
-numbersIn (opening.Refused number place) = record { n = 0; r = 0; v = 0 }
+numbersIn (opening.Opened n r v) = numbered n r v
+numbersIn (opening.Refused number place) = numbered 0 0 0
 
 unfoldable pub numbersOf : List ℕ → Numbers
 numbersOf f = numbersIn (openOf f)
 
--- a file's slice, held with the numbers of its bytes
+-- a slice, held with the numbers of its bytes
 abbrev pub held : RefT (List ℕ) → Opened
 held file = let numbers = numbersOf (now file) in record { file = file; n = numbers .n; r = numbers .r; v = numbers .v }
