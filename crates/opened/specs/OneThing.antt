@@ -12,7 +12,7 @@ use Rattle.directory.specs.Calls.{openOf, lookupOf, lookupNumbersOf, showPartOf
 use Rattle.directory.specs.Demands.{looking-up-is-decided, showing-is-decided}
 use Rattle.opened.specs.declared.numbering.Numbers.{Numbers}
 use Rattle.opened.specs.declared.Opened.{Opened}
-use Rattle.opened.specs.Held.{numbered, numbersOf, held}
+use Rattle.opened.specs.Held.{numbersOf, held}
 use Rattle.opened.specs.HeldLaws.{numbers-opened, numbers-refused, arity-0, opened-numbers}
 
 -- a file is held

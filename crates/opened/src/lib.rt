@@ -1,4 +1,4 @@
-// The opened directory as one thing that refers to the file's bytes: the file's slice with its n, r and v. It is taken apart to look up and to show, and these look at the bytes themselves: no number in it is trusted.
+// The opened directory as one thing that refers to the file's bytes: the file's slice with its n, r and v. Looking up and showing take it apart and look at the bytes themselves, whatever its numbers say.
 pub mod numbering; // numbering.rt: n, r and v by themselves
 
 use crate::numbering::Numbers;
@@ -23,7 +23,7 @@ pub struct Opened<'a> {
 
 // n, r and v of a file that opens, and 0, 0 and 0 of any other bytes.
 pub fn numbers(file: &[u8]) -> Numbers
-    ensures { λ found. ⌜ found ≡ numbersOf (now (file .entry)) ⌝ }
+    ensures { λ numbers. ⌜ numbers ≡ numbersOf (now (file .entry)) ⌝ }
 {
     match open(file) {
         Opening::Refused(_, _) => Numbers { n: 0, r: 0, v: 0 },
@@ -35,20 +35,20 @@ pub fn numbers(file: &[u8]) -> Numbers
     }
 }
 
-// Opens a file, and holds its slice with its numbers.
+// Opens a file and holds its slice, the one that was lent, with its numbers.
 pub fn hold<'a>(file: &'a [u8]) -> Opened<'a>
     ensures { λ d. ⌜ d ≡ held (file .entry) ⌝ }
 {
-    let found = numbers(file);
+    let given = numbers(file);
     Opened {
         file,
-        n: found.n,
-        r: found.r,
-        v: found.v,
+        n: given.n,
+        r: given.r,
+        v: given.v,
     }
 }
 
-// What lookup gives of the held file.
+// The line of a code in the held file: what lookup gives.
 pub fn find<'a, 'b>(d: Opened<'a>, code: &'b [u8]) -> Found
     ensures given { λ o. ⌜ o ≡ lookupOf (now (d .entry .file)) (now (code .entry)) ⌝ }
     ensures paper { λ o. ⌜ foundNumbers o ≡ lookupNumbersOf (now (d .entry .file)) (now (code .entry)) ⌝ }
@@ -56,7 +56,7 @@ pub fn find<'a, 'b>(d: Opened<'a>, code: &'b [u8]) -> Found
     lookup(d.file, code)
 }
 
-// What show gives of the held file: a part of the file itself.
+// The code of a line of the held file, as a part of the file itself: what show gives.
 pub fn shown<'a>(d: Opened<'a>, line: usize) -> &'a [u8]
     ensures { λ part. ⌜ IsPart part (d .entry .file) (showPartOf (now (d .entry .file)) line) ⌝ }
 {
