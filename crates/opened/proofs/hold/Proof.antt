@@ -98,10 +98,10 @@ module _ {M : Type 1} (𝓤 : URA M) (H : Heap 𝓤) (A : Atoms 𝓤) (W : Given
       qed W (raw Tokens ∷ ‵ (owns (File κ ∷ []) (s, tt) at) ∷ []) ∵ move ! (1 ∷ []) $ fsplit ! $ use1 W (‵ Own ⊛ ‵ Own) (shr-slice-copy 𝓤 H A W (named 0) κ u8 .twice s (f ∷ [])) $ split ! $
       move ! (0 ∷ 2 ∷ []) $ fjoin ! $ move ! (2 ∷ 0 ∷ []) $ join ! $ nothing ! $ move ! (1 ∷ 0 ∷ []) $ join ! $ done !
 
-  module _ (m : Numbers) (e : m ≡ numbersOf (now s)) (okn : m .n < 2 ^ 64) (okr : m .r < 2 ^ 64) (okv : m .v < 2 ^ 64) where
+  module _ (x : Numbers) (e : x ≡ numbersOf (now s)) (okn : x .n < 2 ^ 64) (okr : x .r < 2 ^ 64) (okv : x .v < 2 ^ 64) where
     -- the struct that is made of the callee's numbers
     abbrev made : Opened
-    made = record { file = s; n = m .n; r = m .r; v = m .v }
+    made = record { file = s; n = x .n; r = x .r; v = x .v }
 
     exits : ent 𝓤 (sep 𝓤 Tokens (sem 𝓤 H A Own)) (walkOf 𝓤 H A hold.ended stayed (hold.clauses 𝓤 H A mem run) .post y (T′.lowered made))
     exits =
@@ -119,16 +119,16 @@ module _ {M : Type 1} (𝓤 : URA M) (H : Heap 𝓤) (A : Atoms 𝓤) (W : Given
         alloc1 ! (λ l₀. alloc1 ! (λ l₁. alloc1 ! (λ l₂. alloc0 ! $ params1 ! $ pass1 ! (init ! 2 refl (wt .0)) $ pass0 ! $
         move ! (6 ∷ []) $ use1 W (raw (Numbering 𝓤 H A mem run .pre to) ⊛ ‵ Own) goes $ split ! $
         calls-at ! fm (Numbering 𝓤 H A mem run) known to (and-then ! (load ! (from ! (stop !)) (look ! 4 refl)) (no-more !)) (λ u.
-        returned W numbers.ended (numbers.clauses 𝓤 H A mem run) to (λ m. m ≡ numbersOf (now s)) (λ m ws. id⊢ 𝓤 _) ! tt u (λ m e is.
+        returned W numbers.ended (numbers.clauses 𝓤 H A mem run) to (λ x. x ≡ numbersOf (now s)) (λ x ws. id⊢ 𝓤 _) ! tt u (λ x e is.
         -- [what the numbers own; the token; what the file owns; room for _2; …; _1; …; room for _0; …]
-        drop ! $ land ! (from ! (stop !)) (init ! 2 refl (LL.lawful N.the-type N′.the-laws 𝓤 H A W .typed m _ is .0)) $
-        rewrite ! 2 (λ (w : Val). ‵ (fat fullShare N′.mir l₂ 0 w)) (ap only (LL.tells N.the-type N′.the-laws m _ is)) refl $
-        let ok = LL.owed N.the-type N′.the-laws m _ is in
+        drop ! $ land ! (from ! (stop !)) (init ! 2 refl (LL.lawful N.the-type N′.the-laws 𝓤 H A W .typed x _ is .0)) $
+        rewrite ! 2 (λ (w : Val). ‵ (fat fullShare N′.mir l₂ 0 w)) (ap only (LL.tells N.the-type N′.the-laws x _ is)) refl $
+        let ok = LL.owed N.the-type N′.the-laws x _ is in
         assigns ! (agg ! (and-then ! (load ! (from ! (stop !)) (look ! 4 refl)) (and-then ! (load ! (from ! (fld ! refl (stop !))) (look-in ! 2 (sub ! 0 refl (whole !)))) (and-then ! (load ! (from ! (fld ! refl (stop !))) (look-in ! 2 (sub ! 1 refl (whole !)))) (and-then ! (load ! (from ! (fld ! refl (stop !))) (look-in ! 2 (sub ! 2 refl (whole !)))) (no-more !))))))
         (from ! (stop !)) (init ! 6 refl (tt, (wt .0 .1, (record { fits = ok .0 .1 }, (record { fits = ok .1 .0 .1 }, (record { fits = ok .1 .1 .0 .1 }, tt)))))) $
         -- [the token; what the file owns; _2; …; _1; …; _0; …]
         returns ! (look ! 6 refl) $ forget ! 2 refl $ forget ! 4 refl $ forget ! 6 refl $
-        move ! (6 ∷ 7 ∷ []) $ free1 ! $ move ! (4 ∷ 5 ∷ []) $ free1 ! $ move ! (2 ∷ 3 ∷ []) $ free1 ! $ free0 ! $ by ! (exits m e (ok .0 .1) (ok .1 .0 .1) (ok .1 .1 .0 .1)))))))
+        move ! (6 ∷ 7 ∷ []) $ free1 ! $ move ! (4 ∷ 5 ∷ []) $ free1 ! $ move ! (2 ∷ 3 ∷ []) $ free1 ! $ free0 ! $ by ! (exits x e (ok .0 .1) (ok .1 .0 .1) (ok .1 .1 .0 .1)))))))
 
 hold-meets : {M : Type 1} (𝓤 : URA M) (H : Heap 𝓤) (A : Atoms 𝓤) (W : Given 𝓤 H A) (mem : Memory → SProp 𝓤) (run : Routine → Fun 𝓤) (𝓣 : Tables 𝓤 H)
     → Triple 𝓤 (𝓣 .C #opened·numbers) (Numbering 𝓤 H A mem run)
