@@ -1,4 +1,4 @@
--- One turn of each loop that reads: the values of the vertices, the assigned values, the bytes of a code. Assumes nothing.
+-- What the functions that read add up: the values of two or three vertices, the assigned values, the bytes of a code that are unequal. Assumes nothing.
 use mathlib.Core.Path.{_≡_, refl, sym, ap, _∙_}
 use mathlib.Core.Logic.{_≢_}
 use mathlib.Core.Bool.{not}
@@ -24,22 +24,14 @@ use Rattle.records.specs.Standing.{mostBytes, bytesFrom, weightOf, value
 
 -- ---- the values of the vertices
 
--- the sum of the values of the first j of these vertices
-unfoldable pub valuesTo : List ℕ → ℕ → List ℕ → ℕ → ℕ
-valuesTo f r vertices j = sum j (λ j. valueIn (bytesFrom f (valuesFrom r)) (getD vertices j 0))
+module _ (f : ℕ → ℕ) {r a b : ℕ} (first : a ≡ f 0) (second : b ≡ f 1) where
+  pub sum-of-two : r ≡ 2 → a + b ≡ sum r f
+  unfolding sum
+  sum-of-two e = rw e (omega arith)
 
-module _ (f : List ℕ) (r : ℕ) (vertices : List ℕ) where
-  pub values-none : valuesTo f r vertices 0 ≡ 0
-  unfolding valuesTo sum
-  values-none = refl
-
-  pub values-next : (j k : ℕ) → k ≡ valueIn (bytesFrom f (valuesFrom r)) (getD vertices j 0) → valuesTo f r vertices (j + 1) ≡ valuesTo f r vertices j + k
-  unfolding valuesTo
-  values-next j k d = sum-next j (λ j. valueIn (bytesFrom f (valuesFrom r)) (getD vertices j 0)) ∙ rw d
-
-  pub values-all : valuesTo f r vertices r ≡ sum r (λ j. valueIn (bytesFrom f (valuesFrom r)) (getD vertices j 0))
-  unfolding valuesTo
-  values-all = refl
+  pub sum-of-three : {c : ℕ} → c ≡ f 2 → r ≡ 3 → a + b + c ≡ sum r f
+  unfolding sum
+  sum-of-three third e = rw e (omega arith)
 
 -- ---- the assigned values
 

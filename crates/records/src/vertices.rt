@@ -39,13 +39,12 @@ fn value_sum(file: &[u8], r: usize, v: usize, vertices: &[usize]) -> usize
     ensures { λ s. ⌜ s ≡ sum r (λ j. valueIn (bytesFrom (now (file .entry)) (valuesFrom r)) (getD (now (vertices .entry)) j 0)) ⌝ }
 {
     let at = values_at(r);
-    let mut s = 0;
-    let mut j = 0;
-    while j < r {
-        s += value(file, at, vertices[j]);
-        j += 1;
+    let s = value(file, at, vertices[0]) + value(file, at, vertices[1]);
+    if FEWEST_PARTS < r {
+        s + value(file, at, vertices[2])
+    } else {
+        s
     }
-    s
 }
 
 // The landing vertex of a code.

@@ -1,72 +1,81 @@
--- `records::vertices::value_sum` meets its contract. The invariant: s is the sum of the values of the first j vertices. The measure is what is left of r. Assumes nothing.
-use mathlib.Core.Path.{_≡_, sym, ap, _∙_}
-use Prim.Native.Nat.{_*_, _-_, _≤_, _<_}
+-- `records::vertices::value_sum` meets its contract. Assumes nothing.
+use mathlib.Core.Path.{_≡_}
+use Prim.Native.Nat.{ℕ, _+_, _/_, _<_}
 use native.Mathlib.Omega.{arith}
-use lib.ListN.{getD}
+use lib.ListN.{length, getD}
 use borrow.Author.Needs.{needs}
-use Rattle.records.specs.ReadingSteps.{valuesTo, values-none, values-next, values-all}
+use Rattle.directory.specs.Bytes.{markLength}
+use Rattle.directory.specs.Values.{valueIn}
+use Rattle.records.specs.Standing.{bytesFrom, valuesFrom}
+use Rattle.records.specs.ReadingSteps.{sum-of-two, sum-of-three}
 use Rattle.records.proofs.vertices.value_sum.Statement.{statement}
 use Rattle.records.proofs.vertices.value_sum.Tie as tie
 
-abbrev Inv-loop : tie.InvT-loop
-Inv-loop file r v vertices at s₀ j₀ s j = (j ≤ r) × (s ≡ valuesTo file r vertices j) × (s ≤ 3 * j)
-
-abbrev μ-loop : tie.MeasureT-loop
-μ-loop file r v vertices at s₀ j₀ s j = r - j
-
-values-at-requires : tie.Need-values-at-requires Inv-loop μ-loop
+values-at-requires : tie.Need-values-at-requires
 values-at-requires c κs = search needs
 
-loop-holds : tie.Need-loop-holds Inv-loop μ-loop
-loop-holds c = (omega arith, sym (values-none _ _ _), omega arith)
+shared-slice-read-value : tie.Need-shared-slice-read-value
+shared-slice-read-value c = search needs
 
-mul-value : tie.Need-mul-value Inv-loop μ-loop
-mul-value c = omega arith
+abbrev start : tie.After-values-at → tie.Start
+start c = c .before .before .before
 
-shared-slice-read-value : tie.Need-shared-slice-read-value Inv-loop μ-loop
-shared-slice-read-value c = omega arith
+-- the value of vertex j stands within the file
+stands : (c : tie.After-values-at) (j : ℕ) → let a = start c .args in j < a .r → c .values-at .result + (markLength + getD (a .vertices .now) j 0 / 4) < length (a .file .now)
+stands c j l = let p = start c .pre in omega (arith, p .1 .1 j l, p .0 .long, c .values-at .ensures)
 
-abbrev start : tie.At-loop Inv-loop μ-loop → tie.Start Inv-loop μ-loop
-start c = c .before .before .before .before
+value-requires : tie.Need-value-requires
+value-requires c κs = let v = c .before in stands v 0 (omega (arith, start v .pre .0 .room .two))
 
-value-requires : tie.Need-value-requires Inv-loop μ-loop
-value-requires c κs = let l = c .before .before in let p = start l .pre in omega (arith, p .1 .1 (l .loop .j) (c .before .loop-test .taken), p .0 .long)
+shared-slice-read-value-2 : tie.Need-shared-slice-read-value-2
+shared-slice-read-value-2 c = omega arith
 
-add-s : tie.Need-add-s Inv-loop μ-loop
-add-s c = omega arith
+value-requires-2 : tie.Need-value-requires-2
+value-requires-2 c κs = let v = c .before .before .before in stands v 1 (omega (arith, start v .pre .0 .room .two))
 
-add-j : tie.Need-add-j Inv-loop μ-loop
-add-j c = omega arith
+add-s : tie.Need-add-s
+add-s c = omega (arith, c .before .before .value .ensures .1, c .value2 .ensures .1)
 
-loop-less : tie.Need-loop-less Inv-loop μ-loop
-loop-less c = omega arith
+shared-slice-read-value-3 : tie.Need-shared-slice-read-value-3
+shared-slice-read-value-3 c = omega arith
 
-loop-again : tie.Need-loop-again Inv-loop μ-loop
-loop-again c =
-    let l = c .before .before .before in
-    let a = start l .args in
-    (omega arith, omega (arith, values-next (a .file .now) (a .r) (a .vertices .now) (l .loop .j) (c .value .result) (rw (← l .before .values-at .ensures) (c .value .ensures .0))), omega (arith, c .value .ensures .1))
+value-requires-3 : tie.Need-value-requires-3
+value-requires-3 c κs = stands (c .before .before .before .before .before .before) 2 (c .before .if1 .taken)
 
-returns : tie.Need-returns Inv-loop μ-loop
+add-result : tie.Need-add-result
+add-result c = let w = c .before .before .before in omega (arith, w .before .before .value .ensures .1, w .value2 .ensures .1, c .value3 .ensures .1)
+
+-- the value of vertex j
+abbrev Value : tie.After-values-at → ℕ → ℕ
+Value c j = let a = start c .args in valueIn (bytesFrom (a .file .now) (valuesFrom (a .r))) (getD (a .vertices .now) j 0)
+
+read : (c : tie.After-values-at) (j k : ℕ) → let a = start c .args in k ≡ valueIn (bytesFrom (a .file .now) (c .values-at .result)) (getD (a .vertices .now) j 0) → k ≡ Value c j
+read c j k e = rw (← c .values-at .ensures) e
+
+returns : tie.Need-returns
 returns c =
-    let l = c .before in
-    let a = start l .args in
-    let e : l .loop .j ≡ a .r = omega arith in
-    l .loop .inv .1 ∙ ap (valuesTo (a .file .now) (a .r) (a .vertices .now)) e ∙ values-all (a .file .now) (a .r) (a .vertices .now)
+    let w = c .before .before .before in
+    let v = w .before .before .before .before in
+    sum-of-three (Value v) (read v 0 _ (w .before .before .value .ensures .0)) (read v 1 _ (w .value2 .ensures .0)) (read v 2 _ (c .value3 .ensures .0)) (omega (arith, c .before .before .if1 .taken, start v .pre .0 .room .three))
+
+returns-2 : tie.Need-returns-2
+returns-2 c =
+    let w = c .before in
+    let v = w .before .before .before .before in
+    sum-of-two (Value v) (read v 0 _ (w .before .before .value .ensures .0)) (read v 1 _ (w .value2 .ensures .0)) (omega (arith, c .if1 .left, start v .pre .0 .room .two))
 
 pub value-sum-spec : {M : Type 1} → statement M
 value-sum-spec =
     tie.close
     (tie.spec
-    Inv-loop
-    μ-loop
     values-at-requires
-    loop-holds
-    mul-value
     shared-slice-read-value
     value-requires
+    shared-slice-read-value-2
+    value-requires-2
     add-s
-    add-j
-    loop-less
-    loop-again
-    returns)
+    shared-slice-read-value-3
+    value-requires-3
+    add-result
+    returns
+    returns-2)
