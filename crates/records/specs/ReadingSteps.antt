@@ -1,4 +1,4 @@
--- What the functions that read add up: the values of two or three vertices, the assigned values, the bytes of a code that are unequal. Assumes nothing.
+-- What the functions that read add up: the values of two or three vertices, and the assigned values. Assumes nothing.
 use mathlib.Core.Path.{_≡_, refl, sym, ap, _∙_}
 use mathlib.Core.Logic.{_≢_}
 use mathlib.Core.Bool.{not}
@@ -41,32 +41,3 @@ module _ (r : ℕ) (value : ℕ → ℕ) (from k x : ℕ) (e : x ≡ value (from
 
   pub unassigned-counts-not : x ≡ r → count (k + 1) (λ i. assigned r (value (from + i))) ≡ count k (λ i. assigned r (value (from + i)))
   unassigned-counts-not i = count-out k (λ i. assigned r (value (from + i))) (ap not (eq-eqb (value (from + k)) r (sym e ∙ i)))
-
--- ---- the bytes of a code
-
-module _ (f : List ℕ) (at : ℕ) (t : List ℕ) where
-  -- how many of the first i bytes are unequal
-  unfoldable pub unequal : ℕ → ℕ
-  unequal i = count i (λ k. not (eqb (getD f (at + k) 0) (getD t k 0)))
-
-  pub unequal-none : unequal 0 ≡ 0
-  unfolding unequal sum
-  unequal-none = refl
-
-  pub unequal-counts : (i : ℕ) → getD f (at + i) 0 ≢ getD t i 0 → unequal (i + 1) ≡ unequal i + 1
-  unfolding unequal
-  unequal-counts i d = count-in i (λ k. not (eqb (getD f (at + k) 0) (getD t k 0))) (ap not (ne-eqb _ _ d))
-
-  pub equal-counts-not : (i : ℕ) → getD f (at + i) 0 ≡ getD t i 0 → unequal (i + 1) ≡ unequal i
-  unfolding unequal
-  equal-counts-not i e = count-out i (λ k. not (eqb (getD f (at + k) 0) (getD t k 0))) (ap not (eq-eqb _ _ e))
-
-  -- the code stands there exactly if none is
-  pub same-if-none : at + length t ≤ length f → eqb (unequal (length t)) 0 ≡ same (take (length t) (drop at f)) t
-  unfolding unequal
-  same-if-none l =
-      let s = take (length t) (drop at f) in
-      let e : length s ≡ length t = length-take-le (length t) (drop at f) (rw (length-drop at f) (omega arith)) in
-      let q : unequal (length t) ≡ count (length t) (λ i. not (eqb (getD s i 0) (getD t i 0))) =
-      sum-equal (length t) _ _ (λ i m. ap (λ x. bit (not (eqb x (getD t i 0)))) (sym (getD-take (length t) (drop at f) i 0 m ∙ getD-drop at f i 0))) in
-      ap (λ k. eqb k 0) q ∙ sym (same-none-unequal s t e)

@@ -38,16 +38,8 @@ end-requires c κs = search needs
 earlier : (c : tie.In-loop Inv-loop μ-loop) → let a = start (c .before) .args in Runs (HD .positions) (a .run .now) (a .ends .now) (c .before .loop .i)
 earlier c = start (c .before) .pre .0 (c .before .loop .i) (omega arith)
 
--- .. and code k is no longer than a code may be
-short : (c : tie.At-loop Inv-loop μ-loop) → length (now (c .before .code .result)) ≤ HD .positions
-short c =
-    let s = start c in
-    let a = s .args in
-    let r = s .pre .0 (a .k) (s .pre .1) in
-    rw (c .before .code .ensures, code-length (HD .positions) (a .run .now) (a .ends .now) (a .k) r) (omega (arith, r .short))
-
 same-code-requires : tie.Need-same-code-requires Inv-loop μ-loop
-same-code-requires c κs = let r = earlier (c .before) in (omega (arith, r .some), omega (arith, r .inside), short (c .before .before))
+same-code-requires c κs = let r = earlier (c .before) in (omega (arith, r .some), omega (arith, r .inside))
 
 -- what the call says of code i
 said : (c : tie.After-same-code Inv-loop μ-loop) → let l = c .before .before .before in let a = start l .args in c .same-code .result ≡ same (code (a .run .now) (a .ends .now) (l .loop .i)) (code (a .run .now) (a .ends .now) (a .k))
