@@ -1,26 +1,13 @@
 -- What the functions that read add up: the values of two or three vertices, and the assigned values. Assumes nothing.
-use mathlib.Core.Path.{_≡_, refl, sym, ap, _∙_}
+use mathlib.Core.Path.{_≡_, sym, ap, _∙_}
 use mathlib.Core.Logic.{_≢_}
 use mathlib.Core.Bool.{not}
-use mathlib.Core.List.{List}
-use Prim.Native.Nat.{ℕ, _+_, _*_, _≤_, _<_}
-use native.Mathlib.Nat.{mul-le-mul}
+use Prim.Native.Nat.{ℕ, _+_}
 use native.Mathlib.Omega.{arith}
-use lib.Dec.{eqb}
-use lib.ListN.{length, getD, take, drop, length-drop}
-use lib.Seq.{length-take-le, getD-take, getD-drop}
 use borrow.Author.Tests.{eq-eqb, ne-eqb}
-use Rattle.counting.specs.Below.{bit, sum, count}
-use Rattle.counting.specs.BelowLaws.{sum-next, sum-equal}
+use Rattle.counting.specs.Below.{sum, count}
 use Rattle.counting.specs.CountLaws.{count-in, count-out}
-use Rattle.counting.specs.Widths.{oneByte, twoBytes}
-use Rattle.counting.specs.Lists.{same}
-use Rattle.counting.specs.ListsLaws.{same-none-unequal}
 use Rattle.graph.specs.Assignment.{assigned}
-use Rattle.directory.specs.Bytes.{twoAt}
-use Rattle.directory.specs.Kind.{HD, codeSum, vertex}
-use Rattle.directory.specs.Values.{valueIn}
-use Rattle.records.specs.Standing.{mostBytes, bytesFrom, weightOf, valuesFrom}
 
 -- ---- the values of the vertices
 

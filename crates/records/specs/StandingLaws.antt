@@ -18,7 +18,7 @@ use Rattle.directory.specs.KindLaws.{vertex-below}
 use Rattle.directory.specs.Values.{ranksAt, tableSize, valueIn, rankIn, lineIn}
 use Rattle.directory.specs.File.{weightsAt, valuesAt, keysAt, keyAt, fileLength, weightIn, tableIn, keyHead, codeAt, keyLength, storedCode}
 use Rattle.directory.specs.LookingUp.{holdsCode}
-use Rattle.records.specs.Standing.{mostBytes, bytesFrom, weightOf, valuesFrom, ranksFrom, keyFrom, codeFrom, Room, Tabled}
+use Rattle.records.specs.Standing.{bytesFrom, weightOf, valuesFrom, ranksFrom, keyFrom, codeFrom, Room, Tabled}
 
 module _ (n r v : ℕ) where
   abbrev h : Header

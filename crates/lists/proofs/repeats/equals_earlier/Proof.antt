@@ -3,14 +3,12 @@ use mathlib.Core.Path.{_≡_, refl, sym, ap, _∙_}
 use mathlib.Core.Bool.{false}
 use Prim.Native.Nat.{ℕ, _-_, _≤_, _<_}
 use native.Mathlib.Omega.{arith}
-use lib.ListN.{length}
 use denote.Ref.{now}
 use borrow.Author.Count.{below-more}
 use borrow.Author.Needs.{needs}
 use Rattle.counting.specs.Lists.{same}
 use Rattle.counting.specs.SearchLaws.{any-has, any-none}
 use Rattle.directory.specs.Codes.{start as startOf, code, repeated, Runs}
-use Rattle.directory.specs.CodesLaws.{code-length}
 use Rattle.directory.specs.Kind.{HD}
 use Rattle.lists.specs.CodeSteps.{start-first, start-after, part-is-code}
 use Rattle.lists.proofs.repeats.equals_earlier.Statement.{statement}

@@ -1,5 +1,4 @@
 -- `records::codes::same_singly` meets its contract. The invariant: the first i bytes are those of the code. The measure is what is left of the code. Assumes nothing.
-use mathlib.Core.Path.{_≡_}
 use Prim.Native.Nat.{_-_, _≤_}
 use native.Mathlib.Omega.{arith}
 use lib.ListN.{length}
