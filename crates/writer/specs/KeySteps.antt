@@ -13,5 +13,5 @@ drop-replicate zero k x = simp unary-clauses
 drop-replicate (suc i) zero x = let e : 0 - suc i ≡ 0 = omega arith in rw e
 drop-replicate (suc i) (suc k) x = simp unary-clauses (drop-replicate i k x)
 
-pub zeros-after : (k : ℕ) {t m : List ℕ} {b : ℕ} → Wrote 0 t (replicate k 0) m b → length t ≤ k → m ≡ t ++ replicate (k - length t) 0
-zeros-after k {t} w h = wrote-whole w (omega (arith, length-replicate {A = ℕ} k 0)) ∙ ap (λ z. t ++ z) (drop-replicate (length t) k 0)
+pub zeros-after : (k : ℕ) {t l m : List ℕ} {b : ℕ} → Wrote 0 t l m b → l ≡ replicate k 0 → length t ≤ k → m ≡ t ++ replicate (k - length t) 0
+zeros-after k {t} w e h = wrote-whole w (omega (arith, ap length e, length-replicate {A = ℕ} k 0)) ∙ ap (λ z. t ++ drop (length t) z) e ∙ ap (λ z. t ++ z) (drop-replicate (length t) k 0)

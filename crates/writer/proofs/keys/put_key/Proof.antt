@@ -1,4 +1,5 @@
 -- `writer::keys::put_key` meets its contract. Assumes nothing.
+use mathlib.Core.Path.{refl}
 use native.Mathlib.Omega.{arith}
 use borrow.Author.Needs.{needs}
 use Rattle.counting.specs.WroteLaws.{wrote-then, wrote-named}
@@ -7,8 +8,6 @@ use Rattle.directory.specs.File.{keyRecord}
 use Rattle.writer.specs.KeySteps.{zeros-after}
 use Rattle.writer.proofs.keys.put_key.Statement.{statement}
 use Rattle.writer.proofs.keys.put_key.Tie as tie
-use Rattle.writer.proofs.keys.put_key.Reads as reads
-use Rattle.writer.proofs.keys.put_key.Lts as lts
 
 returns : tie.Need-returns
 unfolding keyRecord
@@ -17,7 +16,7 @@ returns c =
     let long = all .before .before .before .before .before in
     let mark = long .before .before .before .before in
     let bytes = mark .before .before .before in
-    let f = zeros-after (HD .positions) (bytes .put-bytes .ensures) (omega arith) in
+    let f = zeros-after (HD .positions) (bytes .put-bytes .ensures) refl (omega arith) in
     (λ h. wrote-then (mark .put-mark .ensures) (wrote-then (long .put-byte .ensures) (wrote-named f (all .put-bytes2 .ensures))), omega arith)
 
 slice-aggregate-put-bytes : tie.Need-slice-aggregate-put-bytes
