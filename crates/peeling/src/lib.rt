@@ -1,12 +1,10 @@
 // Peeling, assignment and rank over arrays that the caller lends: from the vertices of the edges to the number left, the values, the rank entries and the order of the edges by line.
 mod assigning; // assigning.rt: the values
-mod ranking; // ranking.rt: rank entries, and the order of the edges by line
+mod ranking; // ranking.rt: the rank entries, and the order of the edges by line
 
 use crate::assigning::assign;
 use crate::ranking::BLOCK;
-use crate::ranking::count_assigned;
-use crate::ranking::key_order;
-use crate::ranking::rank_entries;
+use crate::ranking::rank_vertices;
 use removal::remove_all;
 ghost use mathlib.Core.Path.{_≡_};
 ghost use Prim.Native.Nat.{_*_};
@@ -17,7 +15,7 @@ ghost use Rattle.peeling.specs.Assigning.{AllRemoved};
 ghost use Rattle.peeling.specs.Arranging.{LongEnough, Exact, Lined, Arranged};
 
 // Gives each edge its line, where all are removed and stand in order, first removed first: the values, the rank entries and the edges in the order of their lines.
-// Once the values stand, `degrees` takes the number of assigned vertices below each vertex.
+// From here on `degrees` has the marks of the visited vertices, and `sums` for each assigned vertex the edge that lands on it.
 fn give_lines(
     r: usize,
     edges: &[u16],
@@ -33,9 +31,7 @@ fn give_lines(
     ensures { λ _. ⌜ Lined (graphIn (length (now (order .entry))) r (length (now (degrees .entry))) (now (edges .entry))) (now (values .exit)) (now (rank .exit)) (now (keys .exit)) ⌝ }
 {
     assign(r, edges, order, degrees, sums, values);
-    count_assigned(r, values, degrees);
-    rank_entries(degrees, rank);
-    key_order(r, edges, values, degrees, keys);
+    rank_vertices(r, values, sums, rank, keys);
 }
 
 // The whole sequence over arrays with an entry for each vertex, each edge and each block. Returns the number of edges left over; where none is, the values, the rank entries and the edges in the order of their lines are written.
