@@ -8,12 +8,12 @@ use Prim.Native.Nat.{ℕ, _+_, _*_, _≤_, _<_}
 use native.Mathlib.Nat.{mul-le-mul-right, mul-le-mul-left}
 use native.Mathlib.Omega.{arith}
 use lib.Dec.{eqb, ltb}
-use lib.ListN.{length}
+use lib.ListN.{length, getD}
 use borrow.Author.Tests.{eqb-true, lt-ltb, le-ltb}
 use Rattle.counting.specs.TestLaws.{lt?, and-both}
 use Rattle.counting.specs.Below.{sum, bit}
 use Rattle.counting.specs.BelowLaws.{sum-mono, sum-zero, sum-equal, sum-constant}
-use Rattle.counting.specs.CountLaws.{bit-most, count-most, count-place}
+use Rattle.counting.specs.CountLaws.{bit-most, bit-self, count-most, count-place}
 use Rattle.counting.specs.SearchLaws.{count-any}
 use Rattle.graph.specs.Graph.{Graph, names, degreeIn}
 use Rattle.graph.specs.Peeling.{unremoved, degree, oneLeft}
@@ -23,6 +23,7 @@ use Rattle.counting.specs.Holds.{Holds}
 use Rattle.counting.specs.Widths.{twoBytes}
 use Rattle.removal.specs.Arrays.{vertexAt, graphIn, Held, Vertices, Wide, indexSum, Tallied}
 use Rattle.removal.specs.Linking.{fourBytes, times, Added, Room, Enough}
+use Rattle.removal.specs.LinkingSteps.{times-more, times-left}
 
 -- the vertices of an edge can be read, and are places of an array that is wide enough
 pub held-vertices : {n r m : ℕ} {edges : List ℕ} → Held n r m edges → {e : ℕ} → e < n → (w : ℕ) → m ≤ w → Vertices r e edges w
@@ -90,6 +91,21 @@ module _ {n r m : ℕ} {edges : List ℕ} (held : Held n r m edges) {S R : ℕ �
           ofDegrees = λ x k. omega (arith, a .toDegrees x, t .ofDegrees x k, degree-is x);
           ofSums = λ x k. omega (arith, a .toSums x, t .ofSums x k, sum-is x);
         }
+
+  -- once the first k vertices and one more are off, that one has the degree and the sum that it has without the edge
+
+  module _ {D C D′ C′ : List ℕ} (k : ℕ) (h : k < r) (a : Added r e edges (k + 1) D′ C′ D C) (t : Tallied G R D C) where
+    abbrev x : ℕ
+    x = vertexAt r edges e k
+
+    times-all : times r e edges (k + 1) x ≡ times r e edges r x
+    times-all = omega (arith, times-more r e edges k x, bit-self x, times-left r e edges k h, times-names x, bit-most (names G e x))
+
+    pub left-degree : getD D′ x 0 ≡ degreeIn G S x
+    left-degree = omega (arith, a .toDegrees x, t .ofDegrees x (held .proper .inside e k l h), degree-is x, times-all)
+
+    pub left-sum : getD C′ x 0 ≡ indexSum G S x
+    left-sum = omega (arith, a .toSums x, t .ofSums x (held .proper .inside e k l h), sum-is x, ap (λ i. i * e) times-all)
 
   -- ---- they fit
 

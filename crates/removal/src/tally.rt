@@ -8,7 +8,7 @@ ghost use Rattle.counting.specs.Below.{lowest};
 ghost use Rattle.graph.specs.Peeling.{unremoved};
 ghost use Rattle.counting.specs.Holds.{Holds};
 ghost use Rattle.removal.specs.Arrays.{Held, graphIn, vertexAt, Vertices, Tallied};
-ghost use Rattle.removal.specs.Linking.{Room, Enough, Added};
+ghost use Rattle.removal.specs.Linking.{Room, Added};
 
 // No edge on any vertex.
 fn clear(degrees: &mut [u16], sums: &mut [u32])
@@ -33,20 +33,6 @@ pub fn link(r: usize, e: usize, edges: &[u16], degrees: &mut [u16], sums: &mut [
         let x = vertex(r, e, j, edges);
         degrees[x] = degrees[x] + 1;
         sums[x] = sums[x] + e as u32;
-        j += 1;
-    }
-}
-
-// Takes edge e off its r vertices.
-pub fn unlink(r: usize, e: usize, edges: &[u16], degrees: &mut [u16], sums: &mut [u32])
-    requires { ⌜ Enough r e (now edges) (now degrees) (now sums) ⌝ }
-    ensures { λ _. ⌜ Added r e (now (edges .entry)) r (now (degrees .exit)) (now (sums .exit)) (now (degrees .entry)) (now (sums .entry)) ⌝ }
-{
-    let mut j = 0;
-    while j < r {
-        let x = vertex(r, e, j, edges);
-        degrees[x] = degrees[x] - 1;
-        sums[x] = sums[x] - e as u32;
         j += 1;
     }
 }
