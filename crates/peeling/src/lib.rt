@@ -10,7 +10,7 @@ ghost use mathlib.Core.Path.{_≡_};
 ghost use Prim.Native.Nat.{_*_};
 ghost use lib.ListN.{length};
 ghost use Rattle.graph.specs.Assignment.{blocks};
-ghost use Rattle.removal.specs.Arrays.{Held, graphIn};
+ghost use Rattle.removal.specs.Arrays.{Held, Untallied, graphIn};
 ghost use Rattle.peeling.specs.Assigning.{AllRemoved};
 ghost use Rattle.peeling.specs.Arranging.{LongEnough, Exact, Lined, Arranged};
 
@@ -46,7 +46,8 @@ fn arrange_all(
     rank: &mut [u16],
     keys: &mut [u16],
 ) -> usize
-    requires { ⌜ Exact (length (now order)) r (length (now degrees)) (now edges) (now sums) (now values) (now rank) (now keys) ⌝ }
+    requires exact { ⌜ Exact (length (now order)) r (length (now degrees)) (now edges) (now sums) (now values) (now rank) (now keys) ⌝ }
+    requires clear { ⌜ Untallied (length (now degrees)) (now degrees) (now sums) ⌝ }
     ensures { λ left. ⌜ Arranged (graphIn (length (now (order .entry))) r (length (now (degrees .entry))) (now (edges .entry))) (now (values .exit)) (now (rank .exit)) (now (keys .exit)) left ⌝ }
 {
     let removed = remove_all(r, edges, degrees, sums, keys, order);
@@ -57,7 +58,7 @@ fn arrange_all(
     0
 }
 
-// The whole sequence for n edges of r vertices, v to a part; the arrays may be longer than needed. Returns the number of edges left over; where none is, the values, the rank entries and the edges in the order of their lines stand at the starts of their arrays.
+// The whole sequence for n edges of r vertices, v to a part; the arrays may be longer than needed, and `degrees` and `sums` are lent with 0 in each place. Returns the number of edges left over; where none is, the values, the rank entries and the edges in the order of their lines stand at the starts of their arrays.
 pub fn arrange(
     n: usize,
     r: usize,
@@ -72,6 +73,7 @@ pub fn arrange(
 ) -> usize
     requires held { ⌜ Held n r (r * v) (now edges) ⌝ }
     requires long { ⌜ LongEnough n (r * v) (now degrees) (now sums) (now order) (now values) (now rank) (now keys) ⌝ }
+    requires clear { ⌜ Untallied (r * v) (now degrees) (now sums) ⌝ }
     ensures { λ left. ⌜ Arranged (graphIn n r (r * v) (now (edges .entry))) (now (values .exit)) (now (rank .exit)) (now (keys .exit)) left ⌝ }
 {
     let m = r * v;

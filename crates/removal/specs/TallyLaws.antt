@@ -21,7 +21,7 @@ use Rattle.graph.specs.DegreeLaws.{OneMore, absent-unremoved, weighed-more, deg
 use Rattle.graph.specs.QueueLaws.{one-left}
 use Rattle.counting.specs.Holds.{Holds}
 use Rattle.counting.specs.Widths.{twoBytes}
-use Rattle.removal.specs.Arrays.{vertexAt, graphIn, Held, Vertices, Wide, indexSum, Tallied}
+use Rattle.removal.specs.Arrays.{vertexAt, graphIn, Held, Vertices, Wide, Untallied, indexSum, Tallied}
 use Rattle.removal.specs.Linking.{fourBytes, times, Added, Room, Enough}
 use Rattle.removal.specs.LinkingSteps.{times-more, times-left}
 
@@ -40,12 +40,12 @@ first-one-more k =
     }
 
 -- no edge: all entries are 0
-pub tallied-none : (G : Graph) (D C : List ℕ) → Holds (G .vertices) (λ x. 0) D → Holds (G .vertices) (λ x. 0) C → Tallied G (λ e. ltb e 0) D C
+pub tallied-none : (G : Graph) {D C : List ℕ} → Untallied (G .vertices) D C → Tallied G (λ e. ltb e 0) D C
 unfolding degreeIn indexSum
-tallied-none G D C d c =
+tallied-none G u =
     record {
-      ofDegrees = λ x l. d x l ∙ sym (sum-zero (G .edges) _ (λ e m. ap (λ b. bit (b && names G e x)) (le-ltb e 0 (omega arith))));
-      ofSums = λ x l. c x l ∙ sym (sum-zero (G .edges) _ (λ e m. ap (λ b. bit (b && names G e x) * e) (le-ltb e 0 (omega arith)) ∙ omega arith));
+      ofDegrees = λ x l. u .noDegrees x l ∙ sym (sum-zero (G .edges) _ (λ e m. ap (λ b. bit (b && names G e x)) (le-ltb e 0 (omega arith))));
+      ofSums = λ x l. u .noSums x l ∙ sym (sum-zero (G .edges) _ (λ e m. ap (λ b. bit (b && names G e x) * e) (le-ltb e 0 (omega arith)) ∙ omega arith));
     }
 
 pub tallied-equal : {G : Graph} {S : ℕ → Bool} {D C : List ℕ} → Tallied G S D C → (R : ℕ → Bool) → ((e : ℕ) → e < G .edges → S e ≡ R e) → Tallied G R D C
