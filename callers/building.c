@@ -21,9 +21,19 @@ static void try_part_sizes(void)
     about("refusal 2: v is 0 or r * v is over 4,096");
     static const struct {
         size_t r, v;
-    } wrong[] = {{2, 0},        {2, 2049},           {2, 65536 + 4}, {2, ((size_t)1 << 32) + 4}, {2, (size_t)1 << 63},
-                 {2, SIZE_MAX}, {2, ((size_t)1 << 63) + 4}, {3, 0},  {3, 1366},                  {3, SIZE_MAX},
-                 {3, 6148914691236517206}};
+    } wrong[] = {
+        {2, 0},
+        {2, 2049},
+        {2, 65536 + 4},
+        {2, ((size_t)1 << 32) + 4},
+        {2, (size_t)1 << 63},
+        {2, ((size_t)1 << 63) + 4},
+        {2, SIZE_MAX},
+        {3, 0},
+        {3, 1366},
+        {3, SIZE_MAX},
+        {3, 6148914691236517206},
+    };
     for (size_t i = 0; i < COUNT(wrong); i++) {
         struct list *list = list_of(wrong[i].r, 4, "BA BB");
         list->v = wrong[i].v;

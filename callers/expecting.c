@@ -44,8 +44,8 @@ static void expect_found(struct ds_found given, struct ds_found right)
 {
     check(given.kind == right.kind, "the lookup's kind is %u and not %u", given.kind, right.kind);
     check(given.number == right.number && given.place == right.place && given.line == right.line,
-          "the lookup gave number %u, place %zu, line %zu, and not %u, %zu, %zu", given.number, given.place,
-          given.line, right.number, right.place, right.line);
+          "the lookup gave number %u, place %zu, line %zu, and not %u, %zu, %zu", given.number, given.place, given.line,
+          right.number, right.place, right.line);
 }
 
 void expect_at(const struct file *file, const void *code, size_t length, size_t line)

@@ -15,8 +15,7 @@ static void try_structs(void)
               offsetof(struct ds_found, number) == 4 && offsetof(struct ds_found, place) == 8 &&
               offsetof(struct ds_found, line) == 16,
           "ds_found");
-    check(sizeof(struct ds_part) == 16 && offsetof(struct ds_part, start) == 0 &&
-              offsetof(struct ds_part, length) == 8,
+    check(sizeof(struct ds_part) == 16 && offsetof(struct ds_part, start) == 0 && offsetof(struct ds_part, length) == 8,
           "ds_part");
 }
 

@@ -99,8 +99,8 @@ struct ds_answer call_build(const struct list *list, struct file *file)
     const uint16_t *ends = lend(ENDS, list->ends, list->n * sizeof *list->ends);
     const uint16_t *weights = lend(WEIGHTS, list->weights, list->weights_len * sizeof *list->weights);
     uint8_t *buffer = lend_coloured(list->room);
-    struct ds_answer answer = ds_build(run, list->run_len, ends, list->n, list->r, list->v, weights,
-                                       list->weights_len, buffer, list->room);
+    struct ds_answer answer =
+        ds_build(run, list->run_len, ends, list->n, list->r, list->v, weights, list->weights_len, buffer, list->room);
     bool built = answer.number == DS_SUCCESS;
     size_t written = built ? ds_length(list->n, list->r, list->v) : 0;
     size_t start = (size_t)(buffer - areas[BUFFER]);

@@ -13,9 +13,9 @@ static void try_the_header(void)
         size_t offset;
         uint8_t byte;
         unsigned number;
-    } wrong[] = {{0, 'X', DS_MARK},           {1, 'X', DS_MARK},           {3, 4, DS_HEADER_NUMBERS},
-                 {4, 4, DS_HEADER_NUMBERS},   {5, 0, DS_HEADER_NUMBERS},   {6, 255, DS_HEADER_NUMBERS},
-                 {2, 5, DS_LENGTH},           {4, 3, DS_LENGTH},           {5, 5, DS_LENGTH}};
+    } wrong[] = {{0, 'X', DS_MARK},         {1, 'X', DS_MARK},         {3, 4, DS_HEADER_NUMBERS},
+                 {4, 4, DS_HEADER_NUMBERS}, {5, 0, DS_HEADER_NUMBERS}, {6, 255, DS_HEADER_NUMBERS},
+                 {2, 5, DS_LENGTH},         {4, 3, DS_LENGTH},         {5, 5, DS_LENGTH}};
     for (size_t i = 0; i < COUNT(wrong); i++) {
         struct file *file = case_1_file();
         file->bytes[wrong[i].offset] = wrong[i].byte;
@@ -125,9 +125,11 @@ static void try_a_stored_three(void)
     struct file *file = case_1_file();
     file->bytes[GV + 2] = 0x8C;
     expect_at(file, "DA", 2, 0);
-    expect_unknown(file, "BA", 2); /* there is one more below vertex 2: line 2 holds BB */
-    expect_unknown(file, "AA", 2); /* lands on vertex 5, which is unassigned */
-    expect_lookup_refused(file, "BC", 2, DS_RANK, 0); /* line 4 of 4 */
+    /* AA lands on vertex 5, which is unassigned */
+    expect_unknown(file, "AA", 2);
+    /* one more is assigned below vertex 2, so that BA leads to the line of BB; and BC leads past the last */
+    expect_unknown(file, "BA", 2);
+    expect_lookup_refused(file, "BC", 2, DS_RANK, 0);
 }
 
 static void try_strangers(void)

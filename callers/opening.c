@@ -45,14 +45,20 @@ static const struct fault faults[] = {
     {KY + 3 * KY_BYTES + 4, 'D', DS_ASTRAY, 3}, /* BD has the vertices 2 and 4 and leads to line 1 */
 };
 
+/* Case 1's file with each of these faults. */
+static struct file *with_faults(const struct fault *given, size_t count)
+{
+    struct file *file = case_1_file();
+    for (size_t i = 0; i < count; i++)
+        file->bytes[given[i].offset] = given[i].byte;
+    return file;
+}
+
 static void try_each_fault(void)
 {
     about("a byte of case 1's file is changed");
-    for (size_t i = 0; i < COUNT(faults); i++) {
-        struct file *file = case_1_file();
-        file->bytes[faults[i].offset] = faults[i].byte;
-        expect_open_refused(file, faults[i].number, faults[i].place);
-    }
+    for (size_t i = 0; i < COUNT(faults); i++)
+        expect_open_refused(with_faults(faults + i, 1), faults[i].number, faults[i].place);
 }
 
 /* Faults that leave each other's bytes alone, in the order in which opening looks at them. */
@@ -70,12 +76,8 @@ static void try_the_order(void)
         {KY + 3 * KY_BYTES + 2, 0, DS_STORED_CODE, 3},
         {KY + 4, 'B', DS_ASTRAY, 0},
     };
-    for (size_t first = 0; first < COUNT(together); first++) {
-        struct file *file = case_1_file();
-        for (size_t i = first; i < COUNT(together); i++)
-            file->bytes[together[i].offset] = together[i].byte;
-        expect_open_refused(file, together[first].number, together[first].place);
-    }
+    for (size_t i = 0; i < COUNT(together); i++)
+        expect_open_refused(with_faults(together + i, COUNT(together) - i), together[i].number, together[i].place);
 }
 
 static void try_lengths(void)

@@ -1,7 +1,6 @@
 /* Build, open, look every code up, show every line: the largest lists, and random ones at both arities. */
 #include "calls.h"
 
-#include <stdio.h>
 #include <string.h>
 
 static struct file file;
@@ -76,49 +75,70 @@ static void expect_round_trip(const struct list *list)
 }
 
 /* Each code has a vertex 0 of its own, whose value is 0: the lines are in the order of these vertices. */
+static void try_star(size_t r, size_t v)
+{
+    const struct list *list = star(DS_MOST_CODES, r, v);
+    expect_built(list, &file);
+    expect_round_trip(list);
+    for (size_t k = 0; k < list->n; k += 93)
+        expect_at(&file, code_at(list, k), 2, k);
+}
+
 static void try_stars(void)
 {
-    static const size_t part_sizes[] = {[2] = 2048, [3] = 1365};
-    for (size_t r = 2; r <= 3; r++) {
-        about(r == 2 ? "1,024 codes in a star, r = 2" : "1,024 codes in a star, r = 3");
-        const struct list *list = star(DS_MOST_CODES, r, part_sizes[r]);
-        expect_built(list, &file);
-        expect_round_trip(list);
-        for (size_t k = 0; k < list->n; k += 93)
-            expect_at(&file, code_at(list, k), 2, k);
-    }
+    about("1,024 codes in a star, r = 2");
+    try_star(2, 2048);
+    about("1,024 codes in a star, r = 3");
+    try_star(3, 1365);
 }
 
-/* A code that the list does not have. */
-static void add_another(struct list *list)
+/* Adds a random code, unless the list has it. */
+static void add_random(struct list *list)
 {
     uint8_t code[DS_LONGEST_CODE];
-    size_t length;
-    do {
-        length = 1 + below(DS_LONGEST_CODE);
-        for (size_t i = 0; i < length; i++)
-            code[i] = (uint8_t)below(256);
-    } while (listed(list, code, length));
-    add(list, code, length);
+    size_t length = 1 + below(DS_LONGEST_CODE);
+    for (size_t i = 0; i < length; i++)
+        code[i] = (uint8_t)below(256);
+    if (!listed(list, code, length))
+        add(list, code, length);
 }
 
-/* Random codes under random weights; other weights until they build. Buffers are longer by so many bytes. */
+static void choose_weights(struct list *list)
+{
+    for (size_t i = 0; i < list->weights_len; i++)
+        list->weights[i] = (uint16_t)below(65536);
+}
+
+/* Whether the list builds under other weights. */
+static bool builds(struct list *list)
+{
+    choose_weights(list);
+    struct ds_answer answer = call_build(list, &file);
+    bool built = answer.number == DS_SUCCESS && answer.place == 0;
+    check(built || (answer.number == DS_CYCLIC && answer.place >= 2 && answer.place <= list->n),
+          "the build of %zu codes answered %u, place %zu", list->n, answer.number, answer.place);
+    return built;
+}
+
+/* Random codes, with a buffer that is longer by so many bytes than the file. */
+static struct list *random_list(size_t n, size_t r, size_t v, size_t more)
+{
+    struct list *list = list_of(r, v, "");
+    while (list->n < n)
+        add_random(list);
+    list->room = ds_length(n, r, v) + more;
+    return list;
+}
+
+/* Builds such a list under other weights until it is not cyclic. */
 static void try_random_list(size_t n, size_t r, size_t v, size_t more)
 {
     enum { MOST_TRIES = 1000 };
-    struct list *list = list_of(r, v, "");
-    while (list->n < n)
-        add_another(list);
-    list->room = ds_length(n, r, v) + more;
-    struct ds_answer answer = {DS_CYCLIC, 0};
-    for (size_t tries = 0; answer.number == DS_CYCLIC && tries < MOST_TRIES; tries++) {
-        for (size_t i = 0; i < list->weights_len; i++)
-            list->weights[i] = (uint16_t)below(65536);
-        answer = call_build(list, &file);
-        check(answer.number == DS_SUCCESS || (answer.place >= 2 && answer.place <= n), "%zu codes are left of %zu",
-              answer.place, n);
-    }
-    check(answer.number == DS_SUCCESS && answer.place == 0, "the last build answered %u", answer.number);
+    struct list *list = random_list(n, r, v, more);
+    size_t tries = 1;
+    while (!builds(list) && tries < MOST_TRIES)
+        tries++;
+    check(tries < MOST_TRIES, "%zu codes were not built under %d random weights", n, MOST_TRIES);
     expect_round_trip(list);
 }
 

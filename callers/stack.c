@@ -6,8 +6,13 @@
 #include <string.h>
 #include <sys/mman.h>
 
-/* What include/dronesickle.h asks for. */
+/* What include/dronesickle.h asks for. AddressSanitizer puts its own memset and memcpy in the place of the C library's,
+ * and they take more. */
+#ifdef __SANITIZE_ADDRESS__
+enum { STACK_OF_A_BUILD = 256 * 1024, STACK_OF_OTHERS = 256 * 1024 };
+#else
 enum { STACK_OF_A_BUILD = 48 * 1024, STACK_OF_OTHERS = 1024 };
+#endif
 
 enum { STACK = 1024 * 1024, COLOUR = 0xA5 };
 

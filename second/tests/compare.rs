@@ -7,8 +7,9 @@ use second::compare::{
 use second::trial::answers;
 use second::CodeList;
 
-/// Enough random calls for every answer to occur.
+/// Enough random calls for each difference below to be met, and for every answer to occur.
 const CALLS: u64 = 4_000;
+const MANY_CALLS: u64 = 20_000;
 
 /// The second program with its answers altered.
 #[derive(Clone, Copy)]
@@ -67,17 +68,17 @@ impl Calls for Altered {
     }
 }
 
-/// The words about the first difference in random calls.
-fn difference(program: Altered) -> String {
+/// The words about the first difference in the random calls of a seed.
+fn difference(program: Altered, seed: u64) -> String {
     let mut comparison = Comparison::new(&program);
     comparison
-        .random(CALLS, 1)
+        .random(CALLS, seed)
         .expect_err("the difference is found")
 }
 
 /// Checks that a program is found out, and that the vectors in the words are answered.
 fn assert_found_out(program: Altered, call: &str) {
-    let words = difference(program);
+    let words = difference(program, 1);
     let (_, vectors) = words
         .split_once("answers:\n")
         .expect("vectors after the words");
@@ -97,7 +98,7 @@ fn the_second_program_is_equal_to_itself_and_every_answer_occurs() {
 #[test]
 fn random_calls_alone_have_every_answer() {
     let mut comparison = Comparison::new(&UNALTERED);
-    comparison.random(CALLS, 5).expect("no difference");
+    comparison.random(MANY_CALLS, 5).expect("no difference");
     comparison.summary(5).expect("every answer occurred");
 }
 
@@ -112,13 +113,10 @@ fn too_few_calls_are_no_comparison() {
 
 #[test]
 fn the_same_seed_makes_the_same_calls() {
-    let summary = |seed| {
-        let mut comparison = Comparison::new(&Second);
-        comparison.random(CALLS, seed).expect("no difference");
-        comparison.summary(0).expect("every answer occurred")
-    };
-    assert_eq!(summary(7), summary(7));
-    assert_ne!(summary(7), summary(8));
+    let show = |part: &mut DsPart| part.start += 1;
+    let altered = Altered { show, ..UNALTERED };
+    assert_eq!(difference(altered, 7), difference(altered, 7));
+    assert_ne!(difference(altered, 7), difference(altered, 8));
 }
 
 #[test]
@@ -158,10 +156,8 @@ fn each_byte_of_a_buffer_is_compared() {
     for build in [refused, after_the_file] {
         assert_found_out(Altered { build, ..UNALTERED }, "B ");
     }
-    let words = difference(Altered {
-        build: refused,
-        ..UNALTERED
-    });
+    let build = refused;
+    let words = difference(Altered { build, ..UNALTERED }, 1);
     assert!(words.contains("byte 0 of the buffer"), "{words}");
 }
 

@@ -5,7 +5,7 @@ use crate::header::{Header, HEADER_MARK};
 use crate::random::Random;
 use crate::sizes::{BLOCK, HEADER_BYTES, KEY_BYTES, MARK_BYTES, NUMBER_BYTES};
 use crate::vectors::faults::{N, R, V};
-use crate::vectors::inputs::{key_places, length_place};
+use crate::vectors::inputs::{changed, key_places, length_place};
 use crate::vectors::lists::changed_byte;
 use std::ops::Range;
 
@@ -15,8 +15,22 @@ const PARTS: u64 = 13;
 /// Bytes of the weights that most codes use.
 const WEIGHT_BYTES_USED: usize = 10;
 
-/// Hits one part of a file with this header; now and then swaps two stored codes.
-pub fn damage(file: &mut [u8], header: &Header, random: &mut Random) {
+/// How often each copy of a file is damaged; a copy that is not has another length.
+const DAMAGES: [usize; 8] = [1, 1, 1, 1, 2, 2, 0, 0];
+
+/// Copies of a file with this header that are damaged, or have another length.
+pub fn copies(file: &[u8], header: &Header, random: &mut Random) -> Vec<Vec<u8>> {
+    let mut copy = |damages| {
+        changed(file, |file| match damages {
+            0 => resize(file, random),
+            _ => (0..damages).for_each(|_| damage(file, header, random)),
+        })
+    };
+    DAMAGES.map(&mut copy).to_vec()
+}
+
+/// Hits one part of a file; now and then swaps two stored codes.
+fn damage(file: &mut [u8], header: &Header, random: &mut Random) {
     if header.n > 1 && random.below(PARTS) == 0 {
         swap_codes(file, header, random);
         return;
@@ -61,7 +75,7 @@ fn swap_codes(file: &mut [u8], header: &Header, random: &mut Random) {
 }
 
 /// Another length: cut anywhere, cut or lengthened a little, or by a KY record.
-pub fn resize(file: &mut Vec<u8>, random: &mut Random) {
+fn resize(file: &mut Vec<u8>, random: &mut Random) {
     let length = match random.below(5) {
         0 => random.index(file.len()),
         1 => file.len() - 1 - random.index(KEY_BYTES),

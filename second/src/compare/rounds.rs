@@ -14,10 +14,6 @@ use crate::vectors::HUGE_LINES;
 /// The most listed codes that are looked up in one file, and the most lines that are shown.
 const MOST_CODES_ASKED: usize = 12;
 const MOST_LINES_SHOWN: usize = 6;
-/// Copies of each file with a byte changed, with two, and with another length.
-const DAMAGED: usize = 4;
-const DAMAGED_TWICE: usize = 2;
-const OTHER_LENGTHS: usize = 2;
 /// The most bytes of a code that is too long.
 const LONGEST_ASKED: usize = 300;
 
@@ -79,7 +75,7 @@ fn build(comparison: &mut Comparison, random: &mut Random) -> Result<(), String>
     around(comparison, random, &buffer[..needed], &owned(&codes))
 }
 
-/// A file as it is, damaged, and with other lengths.
+/// Reads a file as it is, and its copies.
 fn around(
     comparison: &mut Comparison,
     random: &mut Random,
@@ -87,52 +83,47 @@ fn around(
     codes: &[Vec<u8>],
 ) -> Result<(), String> {
     let header = checked_header(file).expect("a header that is right");
-    let listed = if codes.is_empty() {
-        &[b"BA".to_vec()][..]
-    } else {
-        codes
-    };
-    read_all(comparison, random, file, &header, listed)?;
-    for number in 0..DAMAGED + DAMAGED_TWICE {
-        let damaged = changed(file, |file| {
-            files::damage(file, &header, random);
-            if number >= DAMAGED {
-                files::damage(file, &header, random);
-            }
-        });
-        read(comparison, random, &damaged, &header, listed)?;
-    }
-    for _ in 0..OTHER_LENGTHS {
-        let other = changed(file, |file| files::resize(file, random));
-        read(comparison, random, &other, &header, listed)?;
+    let none = [b"BA".to_vec()];
+    let listed = if codes.is_empty() { &none } else { codes };
+    comparison.ask(&Call::Open { file })?;
+    look_up(comparison, random, file, listed)?;
+    show(comparison, random, file, &header)?;
+    for copy in files::copies(file, &header, random) {
+        read(comparison, random, &copy, &header, listed)?;
     }
     Ok(())
 }
 
-/// Opens a file, looks up listed codes, strangers, an empty code and one that is too long, and shows lines.
-fn read_all(
+/// Looks up listed codes, strangers, an empty code and one that is too long.
+fn look_up(
     comparison: &mut Comparison,
     random: &mut Random,
     file: &[u8],
-    header: &Header,
     listed: &[Vec<u8>],
 ) -> Result<(), String> {
-    comparison.ask(&Call::Open { file })?;
     let lent: Vec<&[u8]> = listed.iter().map(|code| &code[..]).collect();
     let mut asked = strangers(&lent, random);
     asked.extend(some(listed, MOST_CODES_ASKED, random));
     asked.push(Vec::new());
-    let length = LONGEST_CODE + 1 + random.index(LONGEST_ASKED - LONGEST_CODE);
-    asked.push(changed(lent[0], |code| code.resize(length, 0)));
+    let too_long = LONGEST_CODE + 1 + random.index(LONGEST_ASKED - LONGEST_CODE);
+    asked.push(changed(lent[0], |code| code.resize(too_long, 0)));
     for code in &asked {
         comparison.ask(&Call::Lookup { file, code })?;
     }
+    Ok(())
+}
+
+/// Shows lines, some past the last.
+fn show(
+    comparison: &mut Comparison,
+    random: &mut Random,
+    file: &[u8],
+    header: &Header,
+) -> Result<(), String> {
     let lines: Vec<usize> = (0..header.n).collect();
-    let past = [header.n, header.n + 1, random.one_of(&HUGE_LINES) as usize];
-    for line in some(&lines, MOST_LINES_SHOWN, random)
-        .into_iter()
-        .chain(past)
-    {
+    let mut shown = some(&lines, MOST_LINES_SHOWN, random);
+    shown.extend([header.n, header.n + 1, random.one_of(&HUGE_LINES) as usize]);
+    for line in shown {
         comparison.ask(&Call::Show { file, line })?;
     }
     Ok(())
