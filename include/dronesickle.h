@@ -36,12 +36,13 @@
  * 32*j + i, over the bytes of the code, mod v. A build is refused as cyclic (8) if there is a group of the
  * codes in which every vertex that one of them has is also another's. That follows from the codes, r, v and
  * the weights, and from nothing else: then take other weights or a larger v, and build again.
- * Random weights serve. Of 200 random lists under random weights these many were built:
+ * Random weights serve. Of 200 lists of random codes, each under random weights, so many were built:
  *
- *     r = 3, r * v about 2 * n       162 of 10 codes, 195 of 50, 198 of 200, 200 of 1,024
- *     r = 3, r * v about 1.25 * n     19 of 10 codes,  68 of 50,  91 of 200, 165 of 1,024
- *     r = 2, r * v about 4 * n       185 of 10 codes, 169 of 50, 174 of 200, 171 of 1,024
- *     r = 2, r * v about 2 * n       112 of 10 codes,  91 of 50,  62 of 200,  56 of 1,024
+ *                                    n = 10    n = 50   n = 200   n = 1,024
+ *     r = 3, r * v about 2 * n          162       195       198         200
+ *     r = 3, r * v about 1.25 * n        19        68        91         165
+ *     r = 2, r * v about 4 * n          185       169       174         171
+ *     r = 2, r * v about 2 * n          112        91        62          56
  *
  * THE FILE
  *
@@ -60,17 +61,16 @@
  *
  * Every call comes back, whatever the bytes and numbers are that it is lent. It looks at its input in
  * an order that is written beside it, and gives the FIRST refusal that applies: a number (enum ds_refusal)
- * and a place. A place of 0 can be a real place, as for code 0; look at the number first. Every field that
- * an answer does not name is 0.
+ * and a place. A place of 0 can be a real place, as for code 0; look at the number first. A field that has
+ * nothing to say is 0. Answers are structs and come back by value.
  *
  * WHAT NO CALL DOES
  *
- * - Write: only ds_build writes, only into its buffer, and only on success. A refused build has
- *   changed no byte.
+ * - Write anything but the buffer of a build that succeeds. A refused build has changed no byte of it.
  * - Read anything but the bytes, ends and weights that it is lent.
  * - Keep anything: no pointer is held after the call, and there is nothing to free or to close.
- * - Allocate, open, print, lock, or look at the locale, errno or any other state. So threads may call
- *   at will, the same file in all of them, as long as nobody writes to the bytes lent during a call.
+ * - Allocate, open, print, lock, or look at the locale, errno or any other state. So threads may call at will,
+ *   on the same file too, as long as nobody writes to what is lent to a call before it comes back.
  *
  * WHAT THE CALLER SEES TO
  *
@@ -90,7 +90,7 @@
  *
  *     cc -std=c99 -Iinclude examples/calls.c target/staticlib/libdronesickle.a -o calls
  *
- * EXAMPLE (examples/calls.c is one that runs)
+ * EXAMPLE (with the list above and 64 weights; examples/calls.c is one that runs)
  *
  *     uint8_t buffer[DS_LONGEST_FILE];
  *     struct ds_answer built = ds_build(run, 6, ends, 3, 2, 4, weights, 64, buffer, sizeof buffer);
