@@ -80,8 +80,8 @@
  * - ends and weights are aligned as uint16_t is.
  * - buffer does not overlap run, ends or weights. All other slices may overlap: a code that is looked up
  *   may lie in the file, as ds_show gives it.
- * - There is stack. ds_build needs some 39 KB of it (39,232 bytes as compiled now, and what memset and
- *   memcpy take), whatever the list is: leave it 48 KB. The others need less than 1 KB.
+ * - There is stack. ds_build needs some 39 KB of it, whatever the list is: 39,040 bytes for its arrays, a
+ *   little for the rest, and what memset and memcpy take. Leave it 48 KB. The others need less than 1 KB.
  *
  * LINKING
  *
