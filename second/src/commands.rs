@@ -1,6 +1,9 @@
-//! The commands build, open, lookup, show, list, vectors, builds and trial: what each reads, writes
+//! The commands build, open, lookup, show, list, vectors, builds, trial and compare: what each reads, writes
 //! and says.
 
+mod compare;
+
+use compare::compare_command;
 use second::answers::{CODE_LIST, CYCLIC, REPEATED, WEIGHTS};
 use second::header::Header;
 use second::listing::refused;
@@ -21,11 +24,15 @@ const USAGE: &str = "usage:
   second list [FILE]                    list all lines (standard input without FILE)
   second vectors SEED LISTS             write vectors of reading, with this many random lists
   second builds SEED LISTS              write vectors of building, with this many random lists
-  second trial [FILE]                   answer vectors (standard input without FILE)";
+  second trial [FILE]                   answer vectors (standard input without FILE)
+  second compare [CALLS [SEED]]         compare the library with this program, on this many random calls";
 
-const COMMANDS: [&str; 8] = [
-    "build", "open", "lookup", "show", "list", "vectors", "builds", "trial",
+const COMMANDS: [&str; 9] = [
+    "build", "open", "lookup", "show", "list", "vectors", "builds", "trial", "compare",
 ];
+
+/// The most arguments of compare.
+const MOST_OF_COMPARE: usize = 2;
 
 /// Exit status of a refusal or of a file that cannot be read or written.
 const FAILED: u8 = 1;
@@ -90,6 +97,7 @@ pub fn run(arguments: &[OsString]) -> Outcome {
         (Some("builds"), [seed, lists]) => vectors_command(builds, seed, lists),
         (Some("trial"), []) => trial_command(None),
         (Some("trial"), [file]) => trial_command(Some(file)),
+        (Some("compare"), given) if given.len() <= MOST_OF_COMPARE => compare_command(given),
         (Some(known), _) if COMMANDS.contains(&known) => Err(Outcome::wrong_call(&format!(
             "{known} takes another number of arguments"
         ))),

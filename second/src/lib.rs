@@ -1,12 +1,16 @@
 //! The second program: the code directory of document 01, written from the documents alone and as
 //! literally as possible, so that the proved implementation can be held to account with it.
+#![deny(unsafe_code)]
 
 pub mod answers;
 pub mod building;
 pub mod codes;
+pub mod compare;
 mod file;
 pub mod graph;
 pub mod header;
+#[cfg(feature = "library")]
+pub mod library;
 pub mod listing;
 pub mod looking;
 pub mod opening;

@@ -29,11 +29,11 @@ const MOST_WEIGHTS: usize = 128;
 
 /// What the vectors leave to those that follow: the file under trial, and what is lent to a build.
 #[derive(Default)]
-struct Held {
-    file: Vec<u8>,
-    run: Vec<u8>,
-    ends: Vec<u16>,
-    weights: Vec<u16>,
+pub(crate) struct Held {
+    pub file: Vec<u8>,
+    pub run: Vec<u8>,
+    pub ends: Vec<u16>,
+    pub weights: Vec<u16>,
 }
 
 /// The answers to vectors, or words about the first line that is no vector.
@@ -68,7 +68,7 @@ fn answer(line: &[u8], held: &mut Held) -> Option<String> {
 }
 
 /// Changes what is held.
-fn change(letter: &[u8], fields: &[&[u8]], held: &mut Held) -> Option<()> {
+pub(crate) fn change(letter: &[u8], fields: &[&[u8]], held: &mut Held) -> Option<()> {
     match (letter, fields) {
         (b"C", [length]) => resize(&mut held.file, length)?,
         (b"P", [place, bytes]) => put(&mut held.file, place, bytes)?,
@@ -89,8 +89,7 @@ fn call(letter: &[u8], fields: &[&[u8]], held: &mut Held) -> Option<String> {
     Some(match (letter, fields) {
         (b"O", []) => opened(open(file)),
         (b"H", []) => opened(checked_header(file)),
-        (b"L", []) => found(lookup(file, b"")),
-        (b"L", [code]) => found(lookup(file, &bytes_up_to(LONGEST_CODE_ASKED, code)?)),
+        (b"L", code) => found(lookup(file, &bytes_asked(code)?)),
         (b"S", [line]) => shown(show(file, decimal(line)?).of(file)),
         (b"D", []) => shown(file),
         (b"B", [r, v, length]) => {
@@ -112,7 +111,7 @@ fn call(letter: &[u8], fields: &[&[u8]], held: &mut Held) -> Option<String> {
 }
 
 /// Cuts bytes to a length, or lengthens them to it with zeros.
-fn resize(bytes: &mut Vec<u8>, length: &[u8]) -> Option<()> {
+pub(crate) fn resize(bytes: &mut Vec<u8>, length: &[u8]) -> Option<()> {
     let length = usize::try_from(decimal(length)?).ok()?;
     if length > LONGEST_FILE {
         return None;
@@ -137,6 +136,15 @@ fn count_up(file: &mut [u8], first: &[u8]) -> Option<()> {
         *byte = ((first + place) % 256) as u8;
     }
     Some(())
+}
+
+/// The code of a lookup; without a word for it, the empty code.
+pub(crate) fn bytes_asked(words: &[&[u8]]) -> Option<Vec<u8>> {
+    match words {
+        [] => Some(Vec::new()),
+        [code] => bytes_up_to(LONGEST_CODE_ASKED, code),
+        _ => None,
+    }
 }
 
 fn bytes_up_to(most: usize, digits: &[u8]) -> Option<Vec<u8>> {

@@ -26,14 +26,14 @@
 //! What a build leaves in its buffer is the file for the vectors that follow. `trial` answers the
 //! calls.
 
-mod building;
+pub(crate) mod building;
 mod cases;
 mod edges;
-mod faults;
-mod inputs;
-mod lists;
+pub(crate) mod faults;
+pub(crate) mod inputs;
+pub(crate) mod lists;
 mod order;
-mod script;
+pub(crate) mod script;
 
 use crate::header::checked_header;
 use crate::random::Random;
@@ -42,7 +42,7 @@ use script::Script;
 pub use building::builds;
 
 /// Lines far past the last: as 32 bits or 64 bits that wrap, some would be line 0 or 1.
-const HUGE_LINES: [u64; 5] = [
+pub(crate) const HUGE_LINES: [u64; 5] = [
     (1 << 16) + 1,
     1 << 32,
     (1 << 32) + 1,

@@ -294,10 +294,25 @@ fn vectors_and_their_trial() {
     assert_eq!(made.status.code(), Some(0), "{}", words(&made));
 }
 
+/// `tools/try-callers` runs the command with the library.
+#[cfg(not(feature = "library"))]
+#[test]
+fn compare_says_that_it_has_no_library() {
+    let folder = Folder::new("compare");
+    for arguments in [
+        &["compare"][..],
+        &["compare", "10"],
+        &["compare", "10", "random"],
+    ] {
+        let output = folder.second(arguments);
+        assert_failed(&output, 1, "", &["built without the library"]);
+    }
+}
+
 #[test]
 fn wrong_calls() {
     let folder = Folder::with_directory("wrong");
-    let calls: [(&[&str], &str); 14] = [
+    let calls: [(&[&str], &str); 17] = [
         (&[], "a command is missing"),
         (&["frobnicate"], "unknown command `frobnicate`"),
         (&["build"], "build takes another number of arguments"),
@@ -308,6 +323,9 @@ fn wrong_calls() {
         (&["vectors", "one", "2"], "SEED is `one`"),
         (&["builds", "1"], "builds takes"),
         (&["builds", "1", "two"], "LISTS is `two`"),
+        (&["compare", "1", "2", "3"], "compare takes"),
+        (&["compare", "some"], "CALLS is `some`"),
+        (&["compare", "1", "soon"], "SEED is `soon`"),
         (&["show", "case1", "first"], "LINE is `first`"),
         (&["show", "case1", "+1"], "LINE is `+1`"),
         (

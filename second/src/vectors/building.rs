@@ -2,7 +2,7 @@
 //! calls of reading on the file that it leaves.
 
 mod cases;
-mod lists;
+pub mod lists;
 mod order;
 mod refusals;
 mod sizes;

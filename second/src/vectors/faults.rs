@@ -10,9 +10,9 @@ use crate::sizes::{
 };
 
 /// Where the header's numbers stand.
-const N: usize = 2;
-const R: usize = 4;
-const V: usize = 5;
+pub const N: usize = 2;
+pub const R: usize = 4;
+pub const V: usize = 5;
 
 /// A change that puts a fault into a file.
 pub type Change = Box<dyn Fn(&mut Vec<u8>)>;

@@ -86,7 +86,7 @@ fn weights(r: usize, random: &mut Random) -> Vec<u16> {
 }
 
 /// A code of few letters or of any bytes, mostly short.
-fn code(random: &mut Random) -> Vec<u8> {
+pub fn code(random: &mut Random) -> Vec<u8> {
     let longest = random.one_of(&[2, 4, 8, LONGEST_CODE]);
     let few_letters = random.below(3) == 0;
     (0..1 + random.index(longest))
@@ -127,7 +127,7 @@ pub fn strangers(codes: &[&[u8]], random: &mut Random) -> Vec<Vec<u8>> {
 
 /// Values at random, and for each line a code that leads to it: the file opens, though its graph
 /// may be cyclic.
-fn strangers_list(random: &mut Random) -> (Vec<Vec<u8>>, Vec<u8>) {
+pub fn strangers_list(random: &mut Random) -> (Vec<Vec<u8>>, Vec<u8>) {
     const TRIES: usize = 4_000;
     loop {
         let r = 2 + random.index(2);
@@ -152,12 +152,17 @@ fn strangers_list(random: &mut Random) -> (Vec<Vec<u8>>, Vec<u8>) {
 /// Changes one byte, in any record alike.
 fn damage(file: &mut [u8], random: &mut Random) {
     let place = place(file, random);
-    file[place] = match random.below(4) {
-        0 => file[place].wrapping_add(1),
-        1 => file[place] ^ 1 << random.below(8),
+    file[place] = changed_byte(file[place], random);
+}
+
+/// One more, one bit changed, a small number, or any.
+pub fn changed_byte(byte: u8, random: &mut Random) -> u8 {
+    match random.below(4) {
+        0 => byte.wrapping_add(1),
+        1 => byte ^ 1 << random.below(8),
         2 => random.below(5) as u8,
         _ => random.byte(),
-    };
+    }
 }
 
 /// A place in the header, among the weights of the first bytes of a code, the values, the rank

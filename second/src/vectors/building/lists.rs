@@ -50,7 +50,7 @@ fn list(random: &mut Random) -> Input {
     };
     let codes = codes(random.index(most + 1), random);
     let r = 2 + random.below(2);
-    let v = part_size(codes.len() as u64, r, random);
+    let v = part_size_near_cyclic(codes.len() as u64, r, random);
     let mut input = Input::new(&codes, r, v, &weights(r as usize, random));
     input.room += random.index(MOST_TO_SPARE);
     input
@@ -58,7 +58,7 @@ fn list(random: &mut Random) -> Input {
 
 /// Parts between those that are too small for most lists of n codes and those that are large
 /// enough for most: in hundredths of n.
-fn part_size(n: u64, r: u64, random: &mut Random) -> u64 {
+pub fn part_size_near_cyclic(n: u64, r: u64, random: &mut Random) -> u64 {
     let (least, most) = match r {
         2 => (60, 190),
         _ => (28, 90),
@@ -74,7 +74,7 @@ fn weights(r: usize, random: &mut Random) -> Vec<u16> {
 }
 
 /// Different codes, many with the same beginning.
-fn codes(count: usize, random: &mut Random) -> Vec<Vec<u8>> {
+pub fn codes(count: usize, random: &mut Random) -> Vec<Vec<u8>> {
     let stems: Vec<Vec<u8>> = (0..3).map(|_| bytes(random.index(6), random)).collect();
     let mut codes: Vec<Vec<u8>> = Vec::new();
     while codes.len() < count {

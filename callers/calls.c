@@ -1,0 +1,28 @@
+/* The calls of include/dronesickle.h from C: document 01's cases, every refusal at its places, files from
+ * elsewhere, round trips. Everything is tried twice, with what is lent against the guarded page after it and
+ * against the one before it. The first check that is wrong ends the test with words and status 1. */
+#include "calls.h"
+
+#include <stdio.h>
+
+static void try_all(enum side side)
+{
+    lend_from(side);
+    check_the_pages();
+    try_cases();
+    try_building();
+    try_opening();
+    try_looking_up();
+    try_showing();
+    try_round_trips();
+}
+
+int main(void)
+{
+    try_layout();
+    try_all(AGAINST_THE_PAGE_AFTER);
+    try_all(AGAINST_THE_PAGE_BEFORE);
+    try_stack();
+    printf("calls.c: %lu checks, 0 wrong\n", checks_made());
+    return 0;
+}

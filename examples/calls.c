@@ -1,0 +1,86 @@
+/* The calls from C, each once: builds the directory of a small club's gauges, opens it, looks codes up and shows
+ * the lines. include/dronesickle.h says what each call takes and gives.
+ *
+ *     rt staticlib dronesickle
+ *     cc -std=c99 -Iinclude examples/calls.c target/staticlib/libdronesickle.a -o calls && ./calls
+ */
+#include "dronesickle.h"
+
+#include <stdio.h>
+#include <string.h>
+
+/* r = 3 and v = 4 make 12 vertices for the five codes. */
+enum { N = 5, R = 3, V = 4, WEIGHTS = DS_WEIGHTS_OF_A_PART * R, MOST_TRIES = 100 };
+
+static const char *const gauges[N] = {"MILL", "WEIR-2", "LOCK", "FERRY", "BRIDGE"};
+
+/* A list as it is lent: all codes one after the other, and where each ends. */
+static uint8_t run[N * DS_LONGEST_CODE];
+static uint16_t ends[N];
+static uint16_t weights[WEIGHTS];
+static uint8_t buffer[DS_LONGEST_FILE];
+
+static size_t put_codes(void)
+{
+    size_t length = 0;
+    for (size_t k = 0; k < N; k++) {
+        memcpy(run + length, gauges[k], strlen(gauges[k]));
+        length += strlen(gauges[k]);
+        ends[k] = (uint16_t)length;
+    }
+    return length;
+}
+
+/* Any numbers serve as weights. */
+static void choose_weights(void)
+{
+    static uint32_t state = 1;
+    for (size_t i = 0; i < WEIGHTS; i++) {
+        state = state * 1664525u + 1013904223u;
+        weights[i] = (uint16_t)(state >> 16);
+    }
+}
+
+/* Builds under other weights as long as the list is cyclic under them. */
+static struct ds_answer build(void)
+{
+    size_t run_length = put_codes();
+    struct ds_answer answer = {DS_CYCLIC, 0};
+    for (int tries = 0; answer.number == DS_CYCLIC && tries < MOST_TRIES; tries++) {
+        choose_weights();
+        answer = ds_build(run, run_length, ends, N, R, V, weights, WEIGHTS, buffer, sizeof buffer);
+    }
+    return answer;
+}
+
+static void look_up(size_t length, const char *code)
+{
+    struct ds_found found = ds_lookup(buffer, length, (const uint8_t *)code, strlen(code));
+    if (found.kind == DS_AT)
+        printf("%s has line %zu\n", code, found.line);
+    else if (found.kind == DS_UNKNOWN)
+        printf("%s is unknown\n", code);
+    else
+        printf("`%s` is refused: %u, place %zu\n", code, found.number, found.place);
+}
+
+int main(void)
+{
+    struct ds_answer built = build();
+    if (built.number != DS_SUCCESS) {
+        printf("the build is refused: %u, place %zu\n", built.number, built.place);
+        return 1;
+    }
+    size_t length = ds_length(N, R, V);
+    struct ds_opened opened = ds_open(buffer, length);
+    printf("%zu bytes, opened: %zu codes, r = %zu, v = %zu\n", length, opened.n, opened.r, opened.v);
+    for (size_t k = 0; k < N; k++)
+        look_up(length, gauges[k]);
+    look_up(length, "MIL");
+    look_up(length, "");
+    for (size_t line = 0; line < opened.n; line++) {
+        struct ds_part part = ds_show(buffer, length, line);
+        printf("line %zu shows %.*s\n", line, (int)part.length, (const char *)buffer + part.start);
+    }
+    return 0;
+}

@@ -1,0 +1,80 @@
+//! The proved library, as include/dronesickle.h declares it. This module alone has `unsafe`.
+#![allow(unsafe_code)]
+
+use crate::compare::{Calls, DsAnswer, DsFound, DsOpened, DsPart};
+use crate::CodeList;
+
+// The declarations are those of include/dronesickle.h, argument by argument and field by field; the structs have
+// C's layout. `ds_length` takes numbers alone, so that no argument can be wrong: it is safe to call.
+unsafe extern "C" {
+    safe fn ds_length(n: usize, r: usize, v: usize) -> usize;
+
+    fn ds_build(
+        run: *const u8,
+        run_len: usize,
+        ends: *const u16,
+        ends_len: usize,
+        r: usize,
+        v: usize,
+        weights: *const u16,
+        weights_len: usize,
+        buffer: *mut u8,
+        buffer_len: usize,
+    ) -> DsAnswer;
+
+    fn ds_open(file: *const u8, file_len: usize) -> DsOpened;
+
+    fn ds_lookup(file: *const u8, file_len: usize, code: *const u8, code_len: usize) -> DsFound;
+
+    fn ds_show(file: *const u8, file_len: usize, line: usize) -> DsPart;
+}
+
+/// The library that is linked.
+pub struct Library;
+
+impl Calls for Library {
+    fn length(&self, n: usize, r: usize, v: usize) -> usize {
+        ds_length(n, r, v)
+    }
+
+    fn build(
+        &self,
+        list: &CodeList,
+        r: usize,
+        v: usize,
+        weights: &[u16],
+        buffer: &mut [u8],
+    ) -> DsAnswer {
+        // SAFETY: each pointer and length are those of a slice, so that it is valid, aligned and not null. The
+        // buffer is lent to this call alone, so that it overlaps none of the others.
+        unsafe {
+            ds_build(
+                list.run.as_ptr(),
+                list.run.len(),
+                list.ends.as_ptr(),
+                list.ends.len(),
+                r,
+                v,
+                weights.as_ptr(),
+                weights.len(),
+                buffer.as_mut_ptr(),
+                buffer.len(),
+            )
+        }
+    }
+
+    fn open(&self, file: &[u8]) -> DsOpened {
+        // SAFETY: the pointer and the length are those of a slice, and the call only reads.
+        unsafe { ds_open(file.as_ptr(), file.len()) }
+    }
+
+    fn lookup(&self, file: &[u8], code: &[u8]) -> DsFound {
+        // SAFETY: the pointers and the lengths are those of two slices, and the call only reads.
+        unsafe { ds_lookup(file.as_ptr(), file.len(), code.as_ptr(), code.len()) }
+    }
+
+    fn show(&self, file: &[u8], line: usize) -> DsPart {
+        // SAFETY: the pointer and the length are those of a slice, and the call only reads.
+        unsafe { ds_show(file.as_ptr(), file.len(), line) }
+    }
+}
