@@ -1,10 +1,11 @@
 -- Four values in a byte: put together by shifts and ors they make the sum that the definition has. Assumes nothing.
-use mathlib.Core.Path.{_≡_, _∙_}
+use mathlib.Core.Path.{_≡_, sym, _∙_}
 use Prim.Native.Nat.{ℕ, _+_, _*_, _%_, _^_, _≤_, _<_}
 use native.Mathlib.Nat.{add-comm}
 use native.Mathlib.Omega.{arith}
 use lib.Bits.{bitOr, or-shifted-r}
-use Rattle.directory.specs.Values.{packed}
+use Rattle.directory.specs.Values.{packed, spareZero}
+use Rattle.directory.specs.ValueLaws.{spareZero-vertex}
 
 -- bits that stand above those of a lower number are added to it
 or-above : (bits x low : ℕ) → low < 2 ^ bits → bitOr low (x * 2 ^ bits) ≡ low + x * 2 ^ bits
@@ -20,3 +21,10 @@ four-in-byte a b c d la lb lc ld =
 pub packed-from : (value : ℕ → ℕ) (b first second third fourth : ℕ) → first ≡ value (4 * b) → second ≡ value (4 * b + 1) → third ≡ value (4 * b + 2) → fourth ≡ value (4 * b + 3) → first + 4 * second + 16 * third + 64 * fourth ≡ packed value b
 unfolding packed
 packed-from value b first second third fourth e f g h = omega arith
+
+-- of vertices that are all there no bits are spare
+pub packed-full : (m b : ℕ) (value : ℕ → ℕ) → 4 * b + 3 < m → value (4 * b) + 4 * value (4 * b + 1) + 16 * value (4 * b + 2) + 64 * value (4 * b + 3) ≡ packed (spareZero m value) b
+packed-full m b value l = packed-from (spareZero m value) b _ _ _ _ (there (4 * b) (omega arith)) (there (4 * b + 1) (omega arith)) (there (4 * b + 2) (omega arith)) (there (4 * b + 3) l)
+  where
+    there : (x : ℕ) → x < m → value x ≡ spareZero m value x
+    there x i = sym (spareZero-vertex m value x i)

@@ -15,7 +15,7 @@ ghost use Rattle.directory.specs.Kind.{HD};
 ghost use Rattle.directory.specs.File.{keyHead, keyRecord};
 ghost use Rattle.writer.specs.Ready.{LineCodes};
 
-// A code, under KY: its length, its bytes, and zero after them. An array of its own, which nothing else names, is copied to and from all at once.
+// A code, under KY: its length, its bytes, and zero after them. They stand in an array first, since what cannot overlap is copied many bytes at a time.
 fn put_key(buffer: &mut [u8], at: usize, code: &[u8]) -> usize
     requires short { ⌜ length (now code) ≤ HD .positions ⌝ }
     requires room { ⌜ at + (keyHead + HD .positions) ≤ length (now buffer) ⌝ }

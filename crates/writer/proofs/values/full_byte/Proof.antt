@@ -1,21 +1,14 @@
 -- `writer::values::full_byte` meets its contract. Assumes nothing.
-use mathlib.Core.Path.{_≡_, sym, _∙_}
-use Prim.Native.Nat.{ℕ, _+_, _*_, _<_}
+use mathlib.Core.Path.{_∙_}
+use Prim.Native.Nat.{_+_, _*_}
 use native.Mathlib.Omega.{arith}
-use lib.ListN.{length, getD}
 use borrow.Author.Needs.{needs}
-use Rattle.directory.specs.Values.{spareZero}
-use Rattle.directory.specs.ValueLaws.{spareZero-vertex}
-use Rattle.writer.specs.ValueSteps.{packed-from}
+use Rattle.writer.specs.ValueSteps.{packed-full}
 use Rattle.writer.proofs.values.full_byte.Statement.{statement}
 use Rattle.writer.proofs.values.full_byte.Tie as tie
 
 returns : tie.Need-returns
-returns c =
-    let s = c .before .before .before .before .before .before in
-    let x = 4 * s .args .b in
-    let there : (k : ℕ) → k < length (s .args .values .now) → getD (s .args .values .now) k 0 ≡ spareZero (length (s .args .values .now)) (λ i. getD (s .args .values .now) i 0) k = λ k l. sym (spareZero-vertex _ _ k l) in
-    c .pack .ensures ∙ packed-from _ (s .args .b) _ _ _ _ (there x (omega arith)) (there (x + 1) (omega arith)) (there (x + 2) (omega arith)) (there (x + 3) (omega arith))
+returns c = let s = c .before .before .before .before .before .before in c .pack .ensures ∙ packed-full _ (s .args .b) _ (s .pre .1)
 
 pack-requires : tie.Need-pack-requires
 pack-requires c κs =
