@@ -3,7 +3,7 @@
 #ifndef PLAIN_H
 #define PLAIN_H
 
-#include "ds.h"
+#include <dronesickle.h>
 
 /* The length of a file within the sizes. */
 size_t plain_length(size_t n, size_t r, size_t v);
@@ -18,7 +18,7 @@ struct ds_answer plain_build(const uint8_t *run, size_t run_len,
 struct ds_found plain_lookup(const uint8_t *file, size_t file_len,
                              const uint8_t *code, size_t code_len);
 
-/* Counts them one by one, as the library does. */
+/* Counts them one by one. */
 struct ds_found plain_lookup_loop(const uint8_t *file, size_t file_len,
                                   const uint8_t *code, size_t code_len);
 
