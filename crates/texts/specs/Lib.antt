@@ -1,0 +1,16 @@
+pub mod Parts
+pub mod Lines
+pub mod Words
+pub mod Numbers
+pub mod Codes
+pub mod Reading
+pub mod Stops
+pub mod PartsLaws
+pub mod LineSteps
+pub mod WordSteps
+pub mod NumberSteps
+pub mod HexLaws
+pub mod CodeLaws
+pub mod PassedLaws
+pub mod CodesSteps
+pub mod WeightsSteps
