@@ -1,9 +1,11 @@
+pub mod AFewTexts
 pub mod Parts
 pub mod Lines
 pub mod Words
 pub mod Numbers
 pub mod Codes
 pub mod Reading
+pub mod ListLaws
 pub mod Stops
 pub mod PartsLaws
 pub mod LineSteps
