@@ -2,11 +2,12 @@
 use crate::Code;
 use crate::hex::put_pairs;
 use crate::hex::wrong_pairs;
+use beginnings::first_bytes;
 use storing::put_bytes;
 ghost use mathlib.Core.Path.{_≡_};
 ghost use mathlib.Core.Bool.{true, false};
 ghost use Prim.Native.Nat.{_+_, _≤_, min};
-ghost use lib.ListN.{length, take};
+ghost use lib.ListN.{length};
 ghost use Rattle.counting.specs.Wrote.{Wrote};
 ghost use Rattle.texts.specs.Codes.{inHex, hexDigits, wrongLine, mostKept, kept, codeRead, codeStored};
 
@@ -45,16 +46,6 @@ pub(crate) fn wrong_line(line: &[u8]) -> bool
     false
 }
 
-// The first bytes, at most so many.
-fn first(bytes: &[u8], most: usize) -> &[u8]
-    ensures { λ t. ⌜ now t ≡ take most (now (bytes .entry)) ⌝ }
-{
-    if most < bytes.len() {
-        return &bytes[..most];
-    }
-    bytes
-}
-
 fn least(a: usize, b: usize) -> usize
     ensures { λ c. ⌜ c ≡ min a b ⌝ }
 {
@@ -72,7 +63,7 @@ pub(crate) fn put_code(run: &mut [u8], at: usize, line: &[u8]) -> usize
         let pairs = least(digits.len() / 2, MOST_KEPT);
         return put_pairs(run, at, digits, pairs);
     }
-    put_bytes(run, at, first(line, MOST_KEPT))
+    put_bytes(run, at, first_bytes(line, MOST_KEPT))
 }
 
 // Puts what is kept of the code of a line at the start of an array, and nothing where the line is wrong.

@@ -40,11 +40,11 @@ returns c =
     let e = ap (firstPairs (d .hex-digits .result .now)) (l .least .ensures) ∙ ap (λ t. firstPairs t (min (length t / 2) mostKept)) (d .hex-digits .ensures) ∙ kept-pairs _ (hex (d .before)) in
     wrote-named e (p .put-pairs .ensures)
 
-first-requires : tie.Need-first-requires
-first-requires c κs = search needs
+first-bytes-requires : tie.Need-first-bytes-requires
+first-bytes-requires c κs = search needs
 
 put-bytes-requires : tie.Need-put-bytes-requires
-put-bytes-requires c κs = omega (arith, ap length (c .first .ensures), length-take mostKept (c .before .before .before .before .before .before .args .line .now))
+put-bytes-requires c κs = omega (arith, ap length (c .first-bytes .ensures), length-take mostKept (c .before .before .before .before .before .before .args .line .now))
 
 same-length-2 : tie.Need-same-length-2
 same-length-2 c = search needs
@@ -54,7 +54,7 @@ returns-2 c =
     let p = c .before .before in
     let f = p .before in
     let n = f .before .before in
-    wrote-named (f .first .ensures ∙ kept-plain _ (sym (n .before .in-hex .ensures) ∙ n .if1 .left)) (p .put-bytes .ensures)
+    wrote-named (f .first-bytes .ensures ∙ kept-plain _ (sym (n .before .in-hex .ensures) ∙ n .if1 .left)) (p .put-bytes .ensures)
 
 pub put-code-spec : {M : Type 1} → statement M
-put-code-spec = tie.close (tie.spec in-hex-requires hex-digits-requires least-requires put-pairs-requires same-length returns first-requires put-bytes-requires same-length-2 returns-2)
+put-code-spec = tie.close (tie.spec in-hex-requires hex-digits-requires least-requires put-pairs-requires same-length returns first-bytes-requires put-bytes-requires same-length-2 returns-2)
