@@ -1,6 +1,7 @@
 // A directory out of two texts: the codes and the weights are read, and their directory is built.
 use beginnings::first_bytes;
 use beginnings::first_numbers;
+use builder::build;
 use directory::Built;
 use texts::Codes;
 use texts::MOST_LINES;
@@ -10,7 +11,9 @@ use texts::read_codes;
 use texts::read_weights;
 ghost use mathlib.Core.Path.{_≡_};
 ghost use Prim.Native.Nat.{_≤_};
-ghost use lib.ListN.{length};
+ghost use lib.ListN.{length, take};
+ghost use Rattle.directory.specs.Building.{lent};
+ghost use Rattle.directory.specs.Calls.{buildOf, bufferAfterOf};
 ghost use Rattle.texts.specs.Reading.{mostLines, mostRun, mostWords};
 ghost use Rattle.making.specs.Making.{afterBuilding, madeOf, madeBuffer};
 
@@ -41,6 +44,32 @@ fn answer(n: usize, built: Built) -> Made
     }
 }
 
+// Builds the directory of what stands at the starts of the arrays: n codes of so many bytes in all, and the weights.
+fn build_read(
+    run: &[u8],
+    size: usize,
+    ends: &[u16],
+    n: usize,
+    r: usize,
+    v: usize,
+    numbers: &[u16],
+    count: usize,
+    buffer: &mut [u8],
+) -> Made
+    ensures answer { λ made. ⌜ made ≡ afterBuilding n (buildOf (lent (take size (now (run .entry))) (take n (now (ends .entry))) r v (take count (now (numbers .entry))) (now (buffer .entry)))) ⌝ }
+    ensures bytes { λ made. ⌜ now (buffer .exit) ≡ bufferAfterOf (lent (take size (now (run .entry))) (take n (now (ends .entry))) r v (take count (now (numbers .entry))) (now (buffer .entry))) ⌝ }
+{
+    let built = build(
+        first_bytes(run, size),
+        first_numbers(ends, n),
+        r,
+        v,
+        first_numbers(numbers, count),
+        buffer,
+    );
+    answer(n, built)
+}
+
 fn make_in(
     codes: &[u8],
     weights: &[u8],
@@ -59,12 +88,7 @@ fn make_in(
         Codes::Wrong(k) => Made::WrongLine(k),
         Codes::Read(n, size) => match read_weights(weights, numbers) {
             Weights::Wrong(k) => Made::WrongWord(k),
-            Weights::Read(count) => {
-                let list = first_bytes(run, size);
-                let stops = first_numbers(ends, n);
-                let weighed = first_numbers(numbers, count);
-                answer(n, builder::build(list, stops, r, v, weighed, buffer))
-            }
+            Weights::Read(count) => build_read(run, size, ends, n, r, v, numbers, count, buffer),
         },
     }
 }

@@ -16,3 +16,4 @@ pub mod CodeLaws
 pub mod PassedLaws
 pub mod CodesSteps
 pub mod WeightsSteps
+pub mod ReadLaws
