@@ -47,20 +47,22 @@ fn say_building(number: u8, place: usize) {
 // 9 to 16, of a file and of a code that is asked for.
 fn say_reading(number: u8, place: usize) {
     match number {
-        WRONG_SIZE => say(
-            b": not the length of a directory: under 7 bytes, or not as long as its header calls for",
+        WRONG_SIZE => say(b": it is shorter than 7 bytes, or not as long as its header calls for"),
+        WRONG_MARK => say_place(
+            b": the mark that should stand at byte ",
+            place,
+            b" is not there",
         ),
-        WRONG_MARK => say_place(b": byte ", place, b" does not begin the mark of a record"),
         WRONG_HEADER => say(b": the numbers in its header are outside the sizes that are allowed"),
         WRONG_VALUE => say_place(
             b": the value of vertex ",
             place,
-            b" is over R; or, if R times V vertices end before it, a spare bit is set",
+            b" is over R; or, where the vertices end before it, a spare bit is set",
         ),
         WRONG_RANK => say_place(
             b": rank entry ",
             place,
-            b" is wrong; or, if the entries end before it, the assigned vertices are not as many as the codes",
+            b" is wrong; or, where the entries end before it, the assigned vertices are not as many as the codes",
         ),
         WRONG_KEY => say_place(
             b": the code of line ",
