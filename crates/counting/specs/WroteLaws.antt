@@ -5,7 +5,7 @@ use Prim.Native.Nat.{ℕ, suc, _+_, _≤_, _<_}
 use native.Mathlib.Nat.{add-zero}
 use native.Mathlib.Numerals.{add-one}
 use native.Mathlib.Omega.{arith}
-use lib.ListN.{length, getD, take, drop, set, replicate, length-append, replicate-append-replicate}
+use lib.ListN.{length, getD, take, drop, set, length-append}
 use lib.Seq.{sets, sets-eq, length-sets, take-suc, take-all}
 use Rattle.counting.specs.Lists.{each}
 use Rattle.counting.specs.Wrote.{Wrote}
@@ -57,10 +57,6 @@ wrote-take-next t i h v w = rw (add-one i, take-suc t i 0 h) (wrote-then v w)
 
 pub wrote-take-all : (t : List ℕ) (i : ℕ) {a b : ℕ} {l m : List ℕ} → length t ≤ i → Wrote a (take i t) l m b → Wrote a t l m b
 wrote-take-all t i h v = wrote-named (take-all i t h) v
-
--- one zero more
-pub wrote-zeros-next : (i : ℕ) {a b c : ℕ} {l m n : List ℕ} → Wrote a (replicate i 0) l m b → Wrote b (0 ∷ []) m n c → Wrote a (replicate (i + 1) 0) l n c
-wrote-zeros-next i v w = wrote-named (replicate-append-replicate i 1 0) (wrote-then v w)
 
 -- ---- all of it
 

@@ -5,6 +5,7 @@ use Prim.Native.Nat.{ℕ}
 use Rattle.directory.specs.declared.Built.{Built}
 use Rattle.directory.specs.declared.Opening.{Opening}
 use Rattle.directory.specs.declared.Found.{Found}
+use Rattle.directory.specs.declared.Part.{Part}
 use Rattle.directory.specs.Sizes.{Header, headed, headerAllowed}
 use Rattle.directory.specs.Kind.{Kind, HD}
 use Rattle.directory.specs.Refusals.{Refusal, first}
@@ -66,7 +67,7 @@ lookupNumbersOf f t =
 -- ---- showing and listing
 
 -- the part of the file, and its bytes
-unfoldable pub showPartOf : List ℕ → ℕ → showing.Part
+unfoldable pub showPartOf : List ℕ → ℕ → Part
 showPartOf f l = showing.shownPart (kindOf f) f l
 
 unfoldable pub showOf : List ℕ → ℕ → List ℕ

@@ -11,6 +11,7 @@ use Rattle.directory.specs.declared.Built.the-variants as built
 use Rattle.directory.specs.declared.Opening.{Opening}
 use Rattle.directory.specs.declared.Opening.the-variants as opening
 use Rattle.directory.specs.declared.Found.{Found}
+use Rattle.directory.specs.declared.Part.{Part}
 use Rattle.directory.specs.declared.Found.the-variants as found
 use Rattle.directory.specs.declared.RefusalGroup.{RefusalGroup}
 use Rattle.directory.specs.declared.PlaceMeaning.{PlaceMeaning}
@@ -142,6 +143,9 @@ the-group-is-decided number a b = a ∙ sym b
 
 pub the-meaning-of-a-place-is-decided : (number : ℕ) {a b : PlaceMeaning} → a ≡ meaningOf number → b ≡ meaningOf number → a ≡ b
 the-meaning-of-a-place-is-decided number a b = a ∙ sym b
+
+pub the-part-is-decided : (f : List ℕ) (l : ℕ) {p q : Part} → p ≡ showPartOf f l → q ≡ showPartOf f l → p ≡ q
+the-part-is-decided f l a b = a ∙ sym b
 
 -- two slices that are this part of the file's slice have the same bytes, in the same block and at the same place
 pub showing-is-decided : (l : ℕ) {slice other file : RefT (List ℕ)} → IsPart slice file (showPartOf (now file) l) → IsPart other file (showPartOf (now file) l) → (now slice ≡ now other) × (ptr slice .0 ≡ ptr other .0) × (ptr slice .1 ≡ ptr other .1)

@@ -6,6 +6,7 @@ use Prim.Native.Nat.{ℕ, _+_, _≤_, _<_}
 use lib.Dec.{ltb}
 use lib.ListN.{take, drop}
 use denote.Ref.{RefT, ptr, now}
+use Rattle.directory.specs.declared.Part.{Part}
 use Rattle.directory.specs.Sizes.{Header}
 use Rattle.directory.specs.Codes.{wrongLength}
 use Rattle.directory.specs.Kind.{Kind}
@@ -13,11 +14,6 @@ use Rattle.directory.specs.Refusals.{first, Given}
 use Rattle.directory.specs.File.{headerIn, codeAt, keyLength}
 use Rattle.directory.specs.Whole.{Framed}
 use Rattle.directory.specs.Opening.{headerRefusals}
-
--- a part of a file: where it starts, and how many bytes it has
-pub record Part : Type 0 where
-  pub start : ℕ
-  pub size : ℕ
 
 -- the empty part is the file's empty beginning
 abbrev pub emptyPart : Part

@@ -3,12 +3,13 @@ use mathlib.Core.Path.{_≡_, refl, sym, ap, _∙_}
 use mathlib.Core.Logic.{_⊎_, inl, inr, ⊎-elim, _≢_, _↔_}
 use mathlib.Core.Bool.{Bool, true, false, not, _||_}
 use mathlib.Core.List.{List, []}
-use Prim.Native.Nat.{ℕ, _≤_, _<_}
+use Prim.Native.Nat.{ℕ, _+_, _≤_, _<_}
 use native.Mathlib.Omega.{arith}
 use lib.Dec.{ltb}
 use lib.ListN.{length}
 use borrow.Author.Tests.{lt-ltb, le-ltb}
 use Rattle.counting.specs.TestLaws.{lt?, or-second, or-none}
+use Rattle.directory.specs.declared.Part.{Part}
 use Rattle.directory.specs.Sizes.{Header}
 use Rattle.directory.specs.Codes.{wrongLength}
 use Rattle.directory.specs.CodesLaws.{length-wrong, length-right}
@@ -18,8 +19,8 @@ use Rattle.directory.specs.RefusalLaws.{first-none, given-first, given-o
 use Rattle.directory.specs.File.{headerIn, codeAt, keyLength, storedCode}
 use Rattle.directory.specs.Opening.{headerRefusals}
 use Rattle.directory.specs.WholeLaws.{framed, framed-back}
-use Rattle.directory.specs.KeyLaws.{stored-length}
-use Rattle.directory.specs.Showing.{Part, emptyPart, keyPart, shownPart, shown, ShowsNothing, refused, pastLast, lengthZero, lengthOver, ShowsCode}
+use Rattle.directory.specs.KeyLaws.{key-inside, stored-length}
+use Rattle.directory.specs.Showing.{emptyPart, keyPart, shownPart, shown, ShowsNothing, refused, pastLast, lengthZero, lengthOver, ShowsCode}
 
 module _ (K : Kind) (f : List ℕ) (l : ℕ) where
   open Kind K using (positions)
@@ -66,6 +67,11 @@ module _ (K : Kind) (f : List ℕ) (l : ℕ) where
 
     pub shown-length : length (shown K f l) ≡ k
     shown-length = ap length shown-stored ∙ stored-length K h f (w .framed .size) l (w .below) (w .most)
+
+  -- ---- either way the part lies within the file
+
+  pub part-within : shownPart K f l .start + shownPart K f l .size ≤ length f
+  part-within = ⊎-elim (λ w. rw (shown-nothing w) (omega arith)) (λ w. rw (shown-part w) (omega (arith, w .most, w .framed .size, key-inside K h l (w .below)))) nothing-or-code
 
   -- ---- so the two cannot be confused
 

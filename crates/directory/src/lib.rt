@@ -19,6 +19,12 @@ pub enum Found {
     Refused(u8, usize),
 }
 
+// A part of a file: where it starts, and how many bytes it has.
+pub struct Part {
+    pub start: usize,
+    pub size: usize,
+}
+
 // Where a code leads by the stored values: to no line, to a line below n, or by a rank entry to a line of n or more.
 pub enum Lead {
     Nowhere,

@@ -1,14 +1,16 @@
 -- The assignment of an ordered list of edges: which vertices are visited, and which values they get. Assumes nothing.
 use mathlib.Core.Path.{_≡_, refl, sym, ap, _∙_}
 use mathlib.Core.Logic.{⊎-elim, _≢_}
-use mathlib.Core.Bool.{true, false, not}
+use mathlib.Core.Bool.{Bool, true, false, not, _||_, cond}
 use mathlib.Core.List.{List, [], _∷_}
 use Prim.Native.Nat.{ℕ, _+_, _-_, _*_, _/_, _%_, _≤_, _<_}
-use native.Mathlib.Nat.{mod-lt, mod-eq-of-lt, add-mod-mod, add-mul-mod-self-right, div-add-mod'}
+use native.Mathlib.Nat.{mod-lt, mod-self, zero-mod, mod-eq-of-lt, add-mod-mod, add-mul-mod-self-right, div-add-mod'}
 use native.Mathlib.Omega.{arith}
 use lib.ListN.{drop}
 use borrow.Author.Tests.{eq-eqb, ne-eqb, not-true}
 use Rattle.counting.specs.TestLaws.{eq?, clash, never-true, or-either, or-second, or-neither}
+use Rattle.counting.specs.Below.{sum}
+use Rattle.counting.specs.BelowLaws.{sum-mod}
 use Rattle.counting.specs.CountLaws.{bit-self}
 use Rattle.counting.specs.SearchLaws.{lowest-some}
 use Rattle.counting.specs.Lists.{occurrences}
@@ -25,6 +27,13 @@ unfolding minusMod
 minus-mod-sum r j s l =
     let a : s + (j + (r - s % r)) ≡ j + (s / r + 1) * r = omega (arith, div-add-mod' s r, mod-lt s {m = r} (omega arith)) in
     add-mod-mod s (j + (r - s % r)) r ∙ ap (λ k. k % r) a ∙ add-mul-mod-self-right j (s / r + 1) r ∙ mod-eq-of-lt l
+
+-- for a sum of at most r values of at most r it is one remainder
+pub minus-mod-square : (r j s : ℕ) → 1 ≤ r → s ≤ r * r → (j + (r * r - s)) % r ≡ minusMod r j s
+unfolding minusMod
+minus-mod-square r j s some l =
+    let a : j + (r * r - s) + (s / r + 1) * r ≡ j + (r - s % r) + r * r = omega (arith, div-add-mod' s r, mod-lt s some) in
+    sym (add-mul-mod-self-right (j + (r * r - s)) (s / r + 1) r) ∙ ap (λ k. k % r) a ∙ add-mul-mod-self-right (j + (r - s % r)) r r
 
 module _ (G : Graph) where
   open Graph G using (arity, vertexOf)
@@ -50,6 +59,19 @@ module _ (G : Graph) where
       (or-either ((assign G l) .visited x) (names G f x) t)
 
   -- ---- one edge more, before the later ones
+
+  -- its vertices are visited, and no other besides
+  pub visited-named : (e : ℕ) (later : List ℕ) (x : ℕ) → names G e x ≡ true → (assign G (e ∷ later)) .visited x ≡ true
+  unfolding assign assignEdge
+  visited-named e later x t = or-second ((assign G later) .visited x) (names G e x) t
+
+  pub visited-unnamed : (e : ℕ) (later : List ℕ) (x : ℕ) → names G e x ≡ false → (assign G (e ∷ later)) .visited x ≡ (assign G later) .visited x
+  unfolding assign assignEdge
+  visited-unnamed e later x t = rw t (only ((assign G later) .visited x))
+    where
+      only : (b : Bool) → b || false ≡ b
+      only true = refl
+      only false = refl
 
   -- the vertex that gets a value with it: the first of its vertices that they leave unvisited
   abbrev pub newVertex : ℕ → List ℕ → ℕ
@@ -117,3 +139,12 @@ module _ (G : Graph) where
   pub values-most : (x : ℕ) → values G x ≤ arity
   unfolding values
   values-most = value-most (removal-ordered G)
+
+  -- the sum over all vertices of an edge is, mod r, the sum over the visited ones: the others have the value r
+  pub sum-visited : (k e j : ℕ) → minusMod arity j (sum arity (λ i. (assign G (drop k (removalList G))) .value (vertexOf e i))) ≡ minusMod arity j (visitedSum G (assign G (drop k (removalList G))) e)
+  unfolding minusMod visitedSum
+  sum-visited k e j = rw (sum-mod arity arity _ _ (λ i l. go i ((assign G (drop k (removalList G))) .visited (vertexOf e i)) refl))
+    where
+      go : (i : ℕ) (b : Bool) → (assign G (drop k (removalList G))) .visited (vertexOf e i) ≡ b → (assign G (drop k (removalList G))) .value (vertexOf e i) % arity ≡ cond b ((assign G (drop k (removalList G))) .value (vertexOf e i)) 0 % arity
+      go i true t = refl
+      go i false t = rw (drop-unassigned k (vertexOf e i) t, mod-self, zero-mod)

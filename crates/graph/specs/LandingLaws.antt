@@ -44,16 +44,16 @@ module _ (G : Graph) where
     landing-visited f m = names-visited G later f _ m (names-at G f _ _ (mod-lt _ (omega (arith, w .isPlace))) refl)
 
     -- with one edge more they land where they did
-    landing-later : (f : ℕ) → 1 ≤ occurrences f later → landingAfter G (e ∷ later) f ≡ landingAfter G later f
+    pub landing-later : (f : ℕ) → 1 ≤ occurrences f later → landingAfter G (e ∷ later) f ≡ landingAfter G later f
     unfolding landing
     landing-later f m = ap (λ k. vertexOf f (k % arity)) (sum-equal arity _ _ (λ j k. visited-value G w (vertexOf f j) (names-visited G later f _ m (names-at G f j _ k refl))))
 
     -- so not on the vertex that gets its value with that edge
-    landing-apart : (f : ℕ) → 1 ≤ occurrences f later → landingAfter G (e ∷ later) f ≢ newVertex G e later
+    pub landing-apart : (f : ℕ) → 1 ≤ occurrences f later → landingAfter G (e ∷ later) f ≢ newVertex G e later
     landing-apart f m i = clash (landing-visited f m) (ap ((assign G later) .visited) (sym (landing-later f m) ∙ i) ∙ new-unvisited G w)
 
     -- there lands the edge itself: the values of its other vertices count as before, mod the arity, and its own makes up the rest
-    landing-new : Proper G → Ordered G later → landingAfter G (e ∷ later) e ≡ newVertex G e later
+    pub landing-new : Proper G → Ordered G later → landingAfter G (e ∷ later) e ≡ newVertex G e later
     unfolding landing visitedSum
     landing-new ok o = ap (vertexOf e) (sum-mod-but arity arity given known j0 (new-place G w) (rw (new-unvisited G w)) agree ∙ ap (λ v. (sum arity known + v) % arity) (new-value G w) ∙ minus-mod-sum arity j0 (sum arity known) (new-place G w))
       where

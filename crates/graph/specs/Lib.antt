@@ -14,7 +14,6 @@ pub mod GroupLaws
 pub mod WithinLaws
 pub mod OrderLaws
 pub mod AssignmentLaws
-pub mod PutBackLaws
 pub mod LandingLaws
 pub mod LineLaws
 pub mod RankLaws

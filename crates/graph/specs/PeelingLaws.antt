@@ -20,7 +20,7 @@ use Rattle.graph.specs.Graph.{Graph, names}
 use Rattle.graph.specs.Peeling.{unremoved, degree, firstWaiting, followAll, peel, removalList, leftOver, numberLeft}
 use Rattle.graph.specs.Run.{Reached, start, step, joining, everWaiting}
 use Rattle.graph.specs.Moment.{Sound, Complete, Peeled}
-use Rattle.graph.specs.DegreeLaws.{absent-unremoved, unremoved-before, names-at, names-some, degree-mono, removed-one-more, degree-more}
+use Rattle.graph.specs.DegreeLaws.{absent-unremoved, unremoved-before, names-at, names-some, degree-mono, degree-size, removed-one-more, degree-more}
 use Rattle.graph.specs.QueueLaws.{sound-room, follow-all-sound, follow-all-grows, follow-all-in, follow-all-back}
 
 module _ (G : Graph) where
@@ -195,3 +195,8 @@ module _ (G : Graph) where
         (λ (i : occurrences e (removalList G) ≡ 0). absurd (omega (arith, count-has edges (leftOver G) e l (absent-unremoved _ e i))))
         (λ (d : occurrences e (removalList G) ≢ 0). omega arith)
         (eq? (occurrences e (removalList G)) 0)
+
+    -- so every degree is 0
+    pub removed-degree : (x : ℕ) → degree G (removalList G) x ≡ 0
+    unfolding numberLeft leftOver
+    removed-degree x = omega (arith, degree-size G (unremoved (removalList G)) x)

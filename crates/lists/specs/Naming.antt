@@ -5,12 +5,6 @@ use Prim.Native.Nat.{ℕ, _+_, _*_, _≤_, _<_}
 use lib.ListN.{length, getD}
 use Rattle.records.specs.Standing.{mostBytes, Room}
 
--- there are weights for part j, and the code has no more bytes than a part has weights
-pub record Weighed (weights t : List ℕ) (j : ℕ) : Type 0 where
-  pub part : j < 3
-  pub long : mostBytes * (j + 1) ≤ length weights
-  pub short : length t ≤ mostBytes
-
 -- the vertices of a code can be written from `at` on
 pub record Writable (r v at : ℕ) (t weights edges : List ℕ) : Type 0 where
   pub sizes : Room r v

@@ -15,14 +15,11 @@ use Rattle.directory.specs.CodesLaws.{code-length}
 use Rattle.records.specs.Standing.{mostBytes}
 use Rattle.records.specs.FramedLaws.{sized-room}
 use Rattle.lists.specs.Listed.{Nameable, Named}
-use Rattle.lists.specs.Naming.{Weighed, Writable, Noted}
+use Rattle.lists.specs.Naming.{Writable, Noted}
 
 -- ---- one vertex more
 
 module _ {r v at : ℕ} {t weights edges : List ℕ} (w : Writable r v at t weights edges) {j : ℕ} (l : j < r) where
-  pub writable-weighed : Weighed weights t j
-  writable-weighed = record { part = omega (arith, w .sizes .three); long = omega (arith, w .weighed); short = w .short }
-
   -- it is one of the r·v, which fit two bytes
   pub vertex-in : (weight : ℕ → ℕ) → vertex HD v weight t j < r * v
   vertex-in weight = vertex-below HD v weight t (w .sizes .some) r j l
@@ -30,16 +27,17 @@ module _ {r v at : ℕ} {t weights edges : List ℕ} (w : Writable r v at t weig
 pub noted-none : (at : ℕ) (f : ℕ → ℕ) (edges : List ℕ) → Noted at 0 f edges edges
 noted-none at f edges = record { noted = λ j l. absurd (omega arith); kept = λ i l. refl }
 
-pub noted-more : (at j : ℕ) (f : ℕ → ℕ) (before after : List ℕ) (x : ℕ) → Noted at j f before after → at + j < length after → x ≡ f j → Noted at (j + 1) f before (set after (at + j) x)
-noted-more at j f before after x n l e =
+-- the next number is x, at place p
+pub noted-more : (at j : ℕ) (f : ℕ → ℕ) (before after : List ℕ) (p x : ℕ) → Noted at j f before after → p ≡ at + j → p < length after → x ≡ f j → Noted at (j + 1) f before (set after p x)
+noted-more at j f before after p x n q l e =
     record {
       noted =
           λ i m.
           ⊎-elim
-          (λ (s : i ≡ j). rw s (getD-set-same after (at + j) x 0 l ∙ e))
-          (λ (d : i ≢ j). getD-set-other after (at + j) (at + i) x 0 (λ s. d (omega arith)) ∙ n .noted i (omega arith))
+          (λ (s : i ≡ j). rw (s, ← q) (getD-set-same after p x 0 l ∙ e))
+          (λ (d : i ≢ j). getD-set-other after p (at + i) x 0 (λ s. d (omega arith)) ∙ n .noted i (omega arith))
           (eq? i j);
-      kept = λ i m. getD-set-other after (at + j) i x 0 (λ s. omega arith) ∙ n .kept i m;
+      kept = λ i m. getD-set-other after p i x 0 (λ s. omega arith) ∙ n .kept i m;
     }
 
 -- ---- one code more

@@ -8,12 +8,11 @@ ghost use lib.ListN.{length, take, drop};
 ghost use Rattle.counting.specs.Below.{lowest};
 ghost use Rattle.counting.specs.Lists.{same};
 ghost use Rattle.directory.specs.Codes.{code as codeOf, repeated};
-ghost use Rattle.directory.specs.Kind.{HD};
 ghost use Rattle.lists.specs.Listed.{Listed};
 
 // Whether the bytes of the run from one place up to another are those of the code: as many, and the same.
 fn same_code(run: &[u8], from: usize, to: usize, code: &[u8]) -> bool
-    requires { ⌜ (from ≤ to) × (to ≤ length (now run)) × (length (now code) ≤ HD .positions) ⌝ }
+    requires { ⌜ (from ≤ to) × (to ≤ length (now run)) ⌝ }
     ensures { λ yes. ⌜ yes ≡ same (take (to - from) (drop from (now (run .entry)))) (now (code .entry)) ⌝ }
 {
     if to - from != code.len() {

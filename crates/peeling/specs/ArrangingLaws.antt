@@ -1,27 +1,28 @@
 -- From the end of the peeling to the values, and from these to the lines. Assumes nothing.
--- D, C, O, W, B, R and K stand for the arrays of degrees, index sums, order, values, counts below, rank entries and keys.
-use mathlib.Core.Path.{_≡_, refl, sym, ap, _∙_}
+-- D, C, O, W, N, R and K stand for the arrays of degrees, index sums, order, values, edges noted, rank entries and keys.
+use mathlib.Core.Path.{_≡_, sym, ap, _∙_}
+use mathlib.Core.Bool.{not}
 use mathlib.Core.List.{List, _++_}
 use Prim.Native.Nat.{ℕ, _+_, _*_, _≤_, _<_}
 use native.Mathlib.Omega.{arith}
 use lib.ListN.{length, getD, take}
 use lib.Seq.{take-all, length-take-le}
+use borrow.Author.Tests.{eqb-false, ne-eqb, not-true}
 use Rattle.graph.specs.Graph.{Graph}
 use Rattle.graph.specs.Peeling.{numberLeft}
-use Rattle.graph.specs.Assignment.{landing, assignedBelow, blockSize, blocks, rankEntry, values, landingVertex, line, edgeOfLine}
-use Rattle.graph.specs.RankLaws.{landing-equal, below-equal}
-use Rattle.graph.specs.PeelingLaws.{left-and-removed}
-use Rattle.graph.specs.LandingLaws.{landing-inside}
-use Rattle.graph.specs.LineLaws.{line-below, line-own, edge-line}
+use Rattle.graph.specs.Assignment.{assignedBelow, blockSize, blocks, rankEntry, values, landingVertex, line, edgeOfLine}
+use Rattle.graph.specs.RankLaws.{below-equal}
+use Rattle.graph.specs.PeelingLaws.{left-and-removed, removed-degree}
+use Rattle.graph.specs.LandingLaws.{landing-inside, landing-assigned, assigned-landing, assigned-number}
+use Rattle.graph.specs.LineLaws.{edge-line}
 use Rattle.counting.specs.Holds.{Holds}
-use Rattle.removal.specs.Arrays.{graphIn, vertexAt, Held, Wide}
+use Rattle.removal.specs.Arrays.{graphIn, Held, Wide}
 use Rattle.counting.specs.HoldsLaws.{holds-front}
-use Rattle.removal.specs.TallyLaws.{held-vertices}
 use Rattle.removal.specs.Queue.{Removed}
-use Rattle.peeling.specs.Assigning.{AllRemoved}
-use Rattle.peeling.specs.Ranking.{lineIn, Distinct, Keyed}
+use Rattle.peeling.specs.Assigning.{AllRemoved, Assigned}
+use Rattle.peeling.specs.Ranking.{Placed, RankedTo}
 use Rattle.peeling.specs.RankingSteps.{block-start}
-use Rattle.peeling.specs.Arranging.{Arranged}
+use Rattle.peeling.specs.Arranging.{Lined, Arranged}
 
 -- ---- the end of the peeling
 
@@ -29,45 +30,57 @@ pub removed-number : {G : Graph} {D C O : List ℕ} {removed : ℕ} → Removed 
 removed-number {G} {O = O} {removed} p o = omega (arith, left-and-removed G, ap length (p .list), length-take-le removed O (omega (arith, p .most)))
 
 pub removed-every : {n r m : ℕ} {edges D C O : List ℕ} {removed : ℕ} → Removed (graphIn n r m edges) D C O removed → length O ≡ n → n ≤ removed → Held n r m edges → Wide m D C → (W : List ℕ) → length W ≡ m → AllRemoved n r m edges O D C W
-removed-every {O = O} {removed} p o all held wide W forValues =
+removed-every {n} {r} {m} {edges} {O = O} {removed} p o all held wide W forValues =
     let whole : take removed O ≡ O = take-all removed O (omega arith) in
-    record { held = held; wide = wide; forValues = forValues; nothing = omega (arith, removed-number p o); list = sym whole ∙ p .list; tallied = rw whole at (p .tallied) }
+    let none : numberLeft (graphIn n r m edges) ≡ 0 = omega (arith, removed-number p o) in
+    record {
+      held = held;
+      wide = wide;
+      forValues = forValues;
+      nothing = none;
+      list = sym whole ∙ p .list;
+      unvisited = λ x l. (rw (p .list) at (p .tallied .ofDegrees)) x l ∙ removed-degree (graphIn n r m edges) none x;
+    }
 
--- ---- W holds the values, B the number of assigned vertices below each
+-- ---- W holds the values, N the edges noted where they land
 
-module _ {n r m : ℕ} {edges : List ℕ} (held : Held n r m edges) (nothing : numberLeft (graphIn n r m edges) ≡ 0) (W B : List ℕ) (ofValues : Holds m (values (graphIn n r m edges)) W) (ofBelow : Holds m (assignedBelow r (λ x. getD W x 0)) B) where
+module _ {n r m : ℕ} {edges : List ℕ} (held : Held n r m edges) (nothing : numberLeft (graphIn n r m edges) ≡ 0) {N W : List ℕ} (a : Assigned (graphIn n r m edges) N W) where
   abbrev G : Graph
   G = graphIn n r m edges
 
-  below-is : (y : ℕ) → y < m → getD B y 0 ≡ assignedBelow r (values G) y
-  below-is y l = ofBelow y l ∙ below-equal r (λ x. getD W x 0) (values G) y (λ x a. ofValues x (omega arith))
+  below-is : (y : ℕ) → y ≤ m → assignedBelow r (λ x. getD W x 0) y ≡ assignedBelow r (values G) y
+  below-is y l = below-equal r (λ x. getD W x 0) (values G) y (λ x h. a .ofValues x (omega arith))
 
-  landing-is : (e : ℕ) → e < n → landing r (λ x. getD W x 0) (vertexAt r edges e) ≡ landingVertex G e
-  unfolding landingVertex
-  landing-is e l = landing-equal r (λ x. getD W x 0) (values G) (vertexAt r edges e) (vertexAt r edges e) (held .proper .some) (λ j a. refl) (λ j a. ofValues (vertexAt r edges e j) (held .proper .inside e j l a))
-
-  line-is : (e : ℕ) → e < n → lineIn r edges W B e ≡ line G e
-  unfolding line
-  line-is e l = ap (λ x. getD B x 0) (landing-is e l) ∙ below-is (landingVertex G e) (landing-inside G (held .proper) e l)
-
-  pub lines-distinct : length W ≡ m → length B ≡ m → Distinct n r edges W B
-  lines-distinct w b =
+  pub edges-placed : length W ≡ m → length N ≡ m → (R K : List ℕ) → length R ≡ blocks m → length K ≡ n → Placed r W N R K
+  edges-placed w o R K forRank forKeys =
       record {
-        some = held .proper .some;
-        smallArity = held .smallArity;
-        fewEdges = held .fewEdges;
-        even = b ∙ sym w;
-        vertices = λ e l. held-vertices held l (length W) (omega (arith, w));
-        inside = λ e l. rw (line-is e l) (line-below G (held .proper) nothing e l);
-        apart = λ e f l k i. line-own G (held .proper) nothing e f l k (sym (line-is e l) ∙ i ∙ line-is f k);
+        few = omega (arith, w, held .fewVertices);
+        even = o ∙ sym w;
+        forRank = forRank ∙ ap blocks (sym w);
+        room = rw (w, below-is m (omega arith)) (omega (arith, assigned-number G (held .proper) nothing));
+        noted =
+            λ x l d.
+            let x-below : x < m = omega (arith, w) in
+            let e = assigned-landing G (held .proper) x (ap not (ne-eqb (values G x) r (λ i. d (a .ofValues x x-below ∙ i)))) in
+            rw (← e .2, a .ofLanded (e .0) (e .1)) (omega (arith, e .1, held .fewEdges));
       }
 
-  pub ranks-are : (R : List ℕ) → Holds (blocks m) (λ b. getD B (blockSize * b) 0) R → Holds (blocks m) (rankEntry r (values G)) R
-  unfolding rankEntry
-  ranks-are R h b l = h b l ∙ below-is (blockSize * b) (block-start m b l)
-
-  pub keys-are : (K : List ℕ) → Keyed n r edges W B K → Holds n (edgeOfLine G) K
-  keys-are K h l a = let w = edge-line G (held .proper) nothing l a in ap (λ i. getD K i 0) (sym (line-is (edgeOfLine G l) (w .0) ∙ w .1)) ∙ h (edgeOfLine G l) (w .0)
+  pub edges-lined : (R K : List ℕ) → RankedTo m r W N R K → Lined G W R K
+  unfolding rankEntry line
+  edges-lined R K k =
+      record {
+        ofValues = a .ofValues;
+        ofRank = λ b l. k .ofRank b l ∙ below-is (blockSize * b) (omega (arith, block-start m b l));
+        ofKeys = key;
+      }
+    where
+      key : (l : ℕ) → l < n → getD K l 0 ≡ edgeOfLine G l
+      key l h =
+          let w = edge-line G (held .proper) nothing l h in
+          let x = landingVertex G (edgeOfLine G l) in
+          let inside : x < m = landing-inside G (held .proper) (edgeOfLine G l) (w .0) in
+          let taken = eqb-false _ _ (not-true _ (landing-assigned G (held .proper) nothing (edgeOfLine G l) (w .0))) in
+          ap (λ i. getD K i 0) (sym (below-is x (omega arith) ∙ w .1)) ∙ k .ofKeys x inside (λ i. taken (sym (a .ofValues x inside) ∙ i)) ∙ a .ofLanded (edgeOfLine G l) (w .0)
 
 -- ---- the arrays may be the starts of longer ones
 

@@ -1,4 +1,5 @@
 pub mod Assigning
+pub mod VisitingSteps
 pub mod AssigningSteps
 pub mod Ranking
 pub mod RankingSteps

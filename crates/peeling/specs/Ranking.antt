@@ -1,26 +1,26 @@
--- The lines of the edges as the arrays have them, and the array that puts each edge in the place of its line. Assumes nothing.
+-- The edges in the order of their lines, from what is noted at the assigned vertices. Assumes nothing.
 use mathlib.Core.Path.{_≡_}
+use mathlib.Core.Logic.{_≢_}
 use mathlib.Core.List.{List}
 use Prim.Native.Nat.{ℕ, _≤_, _<_}
 use lib.ListN.{length, getD}
-use Rattle.graph.specs.Assignment.{landing}
-use Rattle.counting.specs.Widths.{oneByte, twoBytes}
-use Rattle.removal.specs.Arrays.{vertexAt, Vertices}
+use Rattle.graph.specs.Assignment.{assignedBelow, blocks, rankEntry}
+use Rattle.counting.specs.Holds.{Holds}
+use Rattle.counting.specs.Widths.{twoBytes}
 
--- what stands below the landing vertex of edge e
-abbrev pub lineIn : ℕ → List ℕ → List ℕ → List ℕ → ℕ → ℕ
-lineIn r edges values below e = getD below (landing r (λ x. getD values x 0) (vertexAt r edges e)) 0
+-- there is a place for each assigned vertex, and an edge is noted there
+pub record Placed (r : ℕ) (values landed rank keys : List ℕ) : Type 0 where
+  pub few : length values < twoBytes
+  pub even : length landed ≡ length values
+  pub forRank : length rank ≡ blocks (length values)
+  pub room : assignedBelow r (λ i. getD values i 0) (length values) ≤ length keys
+  pub noted : (x : ℕ) → x < length values → getD values x 0 ≢ r → getD landed x 0 < twoBytes
 
--- n edges whose lines are below n and differ
-pub record Distinct (n r : ℕ) (edges values below : List ℕ) : Type 0 where
-  pub some : 1 ≤ r
-  pub smallArity : r < oneByte
-  pub fewEdges : n < twoBytes
-  pub even : length below ≡ length values
-  pub vertices : (e : ℕ) → e < n → Vertices r e edges (length values)
-  pub inside : (e : ℕ) → e < n → lineIn r edges values below e < n
-  pub apart : (e f : ℕ) → e < n → f < n → lineIn r edges values below e ≡ lineIn r edges values below f → e ≡ f
+-- what is noted at each assigned vertex below y stands in the place that has the number of assigned vertices below it
+abbrev pub Keyed : ℕ → ℕ → List ℕ → List ℕ → List ℕ → Type 0
+Keyed y r values landed keys = (x : ℕ) → x < y → getD values x 0 ≢ r → getD keys (assignedBelow r (λ i. getD values i 0) x) 0 ≡ getD landed x 0
 
--- each of the first k edges stands in the place of its line
-abbrev pub Keyed : ℕ → ℕ → List ℕ → List ℕ → List ℕ → List ℕ → Type 0
-Keyed k r edges values below keys = (e : ℕ) → e < k → getD keys (lineIn r edges values below e) 0 ≡ e
+-- the first y vertices are looked at
+pub record RankedTo (y r : ℕ) (values landed rank keys : List ℕ) : Type 0 where
+  pub ofRank : Holds (blocks y) (rankEntry r (λ i. getD values i 0)) rank
+  pub ofKeys : Keyed y r values landed keys

@@ -1,23 +1,21 @@
 // Peeling, assignment and rank over arrays that the caller lends: from the vertices of the edges to the number left, the values, the rank entries and the order of the edges by line.
 mod assigning; // assigning.rt: the values
-mod ranking; // ranking.rt: rank entries, and the order of the edges by line
+mod ranking; // ranking.rt: the rank entries, and the order of the edges by line
 
 use crate::assigning::assign;
 use crate::ranking::BLOCK;
-use crate::ranking::count_assigned;
-use crate::ranking::key_order;
-use crate::ranking::rank_entries;
+use crate::ranking::rank_vertices;
 use removal::remove_all;
 ghost use mathlib.Core.Path.{_≡_};
 ghost use Prim.Native.Nat.{_*_};
 ghost use lib.ListN.{length};
 ghost use Rattle.graph.specs.Assignment.{blocks};
-ghost use Rattle.removal.specs.Arrays.{Held, graphIn};
+ghost use Rattle.removal.specs.Arrays.{Held, Untallied, graphIn};
 ghost use Rattle.peeling.specs.Assigning.{AllRemoved};
 ghost use Rattle.peeling.specs.Arranging.{LongEnough, Exact, Lined, Arranged};
 
 // Gives each edge its line, where all are removed and stand in order, first removed first: the values, the rank entries and the edges in the order of their lines.
-// Once the values stand, `degrees` takes the number of assigned vertices below each vertex.
+// From here on `degrees` has the marks of the visited vertices, and `sums` for each assigned vertex the edge that lands on it.
 fn give_lines(
     r: usize,
     edges: &[u16],
@@ -33,9 +31,7 @@ fn give_lines(
     ensures { λ _. ⌜ Lined (graphIn (length (now (order .entry))) r (length (now (degrees .entry))) (now (edges .entry))) (now (values .exit)) (now (rank .exit)) (now (keys .exit)) ⌝ }
 {
     assign(r, edges, order, degrees, sums, values);
-    count_assigned(r, values, degrees);
-    rank_entries(degrees, rank);
-    key_order(r, edges, values, degrees, keys);
+    rank_vertices(r, values, sums, rank, keys);
 }
 
 // The whole sequence over arrays with an entry for each vertex, each edge and each block. Returns the number of edges left over; where none is, the values, the rank entries and the edges in the order of their lines are written.
@@ -50,7 +46,8 @@ fn arrange_all(
     rank: &mut [u16],
     keys: &mut [u16],
 ) -> usize
-    requires { ⌜ Exact (length (now order)) r (length (now degrees)) (now edges) (now sums) (now values) (now rank) (now keys) ⌝ }
+    requires exact { ⌜ Exact (length (now order)) r (length (now degrees)) (now edges) (now sums) (now values) (now rank) (now keys) ⌝ }
+    requires clear { ⌜ Untallied (length (now degrees)) (now degrees) (now sums) ⌝ }
     ensures { λ left. ⌜ Arranged (graphIn (length (now (order .entry))) r (length (now (degrees .entry))) (now (edges .entry))) (now (values .exit)) (now (rank .exit)) (now (keys .exit)) left ⌝ }
 {
     let removed = remove_all(r, edges, degrees, sums, keys, order);
@@ -61,7 +58,7 @@ fn arrange_all(
     0
 }
 
-// The whole sequence for n edges of r vertices, v to a part; the arrays may be longer than needed. Returns the number of edges left over; where none is, the values, the rank entries and the edges in the order of their lines stand at the starts of their arrays.
+// The whole sequence for n edges of r vertices, v to a part; the arrays may be longer than needed, and `degrees` and `sums` are lent with 0 in each place. Returns the number of edges left over; where none is, the values, the rank entries and the edges in the order of their lines stand at the starts of their arrays.
 pub fn arrange(
     n: usize,
     r: usize,
@@ -76,6 +73,7 @@ pub fn arrange(
 ) -> usize
     requires held { ⌜ Held n r (r * v) (now edges) ⌝ }
     requires long { ⌜ LongEnough n (r * v) (now degrees) (now sums) (now order) (now values) (now rank) (now keys) ⌝ }
+    requires clear { ⌜ Untallied (r * v) (now degrees) (now sums) ⌝ }
     ensures { λ left. ⌜ Arranged (graphIn n r (r * v) (now (edges .entry))) (now (values .exit)) (now (rank .exit)) (now (keys .exit)) left ⌝ }
 {
     let m = r * v;

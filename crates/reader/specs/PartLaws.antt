@@ -1,16 +1,19 @@
--- Which part of the file a line shows, case by case. Assumes nothing.
+-- Which part of the file a line shows, case by case, and that it lies within the file. Assumes nothing.
 use mathlib.Core.Path.{_≡_}
 use mathlib.Core.Logic.{_⊎_}
 use mathlib.Core.List.{List}
 use Prim.Native.Nat.{ℕ, _+_, _-_, _≤_, _<_}
 use native.Mathlib.Omega.{arith}
-use lib.ListN.{take, drop}
+use lib.ListN.{length, take, drop}
 use borrow.Author.Tests.{lt-ltb, le-ltb}
+use Rattle.directory.specs.declared.Part.{Part}
 use Rattle.directory.specs.Sizes.{headed}
 use Rattle.directory.specs.CodesLaws.{length-wrong, length-right}
 use Rattle.directory.specs.Kind.{HD}
 use Rattle.directory.specs.File.{keyLength}
-use Rattle.directory.specs.Showing.{Part, emptyPart, bytesOf, keyPart}
+use Rattle.directory.specs.Showing.{emptyPart, bytesOf, keyPart}
+use Rattle.directory.specs.ShowingLaws.{part-within}
+use Rattle.directory.specs.Calls.{showPartOf}
 use Rattle.records.specs.Standing.{mostBytes, codeFrom}
 use Rattle.records.specs.StandingLaws.{code-from}
 
@@ -32,6 +35,12 @@ module _ (n r v : ℕ) (f : List ℕ) (l : ℕ) where
     unfolding keyPart
     part-here a b = rw (lt-ltb l n m, ← e, length-right mostBytes k .1 (a, b), code-from n r v l)
 
-    -- the bytes from the code's start `at` up to its end are those of the part
-    pub part-bytes : (at : ℕ) → at ≡ codeFrom r v l → take (at + k - at) (drop at f) ≡ bytesOf f part
-    part-bytes at i = let s : at + k - at ≡ k = omega arith in rw (s, i)
+-- the part that a line shows
+module _ (f : List ℕ) (l : ℕ) (p : Part) (e : p ≡ showPartOf f l) where
+  pub shown-within : p .start + p .size ≤ length f
+  unfolding showPartOf
+  shown-within = rw e (part-within HD f l)
+
+  -- the bytes from its start up to its end are its bytes
+  pub shown-bytes : take (p .start + p .size - p .start) (drop (p .start) f) ≡ bytesOf f (showPartOf f l)
+  shown-bytes = let s : p .start + p .size - p .start ≡ p .size = omega arith in rw (s, e)

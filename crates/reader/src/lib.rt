@@ -11,5 +11,6 @@ pub use looking::lookup;
 pub use opening::open;
 pub use refusals::group_of;
 pub use refusals::meaning_of;
+pub use showing::part;
 pub use showing::show;
 pub use sizes::length;

@@ -4,26 +4,29 @@ use mathlib.Core.Logic.{_≢_}
 use mathlib.Core.Bool.{true, not}
 use mathlib.Core.List.{List}
 use Prim.Native.Nat.{ℕ, _/_, _%_, _≤_, _<_}
+use lib.ListN.{getD}
 use borrow.Author.Tests.{eq-eqb, ne-eqb, lt-ltb, le-ltb}
 use Rattle.counting.specs.Below.{sum}
+use Rattle.counting.specs.BelowLaws.{sum-equal}
+use Rattle.counting.specs.Holds.{Holds}
 use Rattle.graph.specs.Assignment.{assigned, landing, blockSize}
 use Rattle.directory.specs.declared.Lead.the-variants.{Nowhere, ToLine, PastLast}
 use Rattle.directory.specs.Sizes.{Header, headed}
-use Rattle.directory.specs.Kind.{HD}
+use Rattle.directory.specs.Kind.{HD, vertex}
 use Rattle.directory.specs.Values.{valueIn, lineIn}
 use Rattle.directory.specs.Leads.{leadOf}
 use Rattle.directory.specs.File.{weightsAt, valuesAt, weightIn, tableIn, leadIn}
 use Rattle.directory.specs.Whole.{landingOf}
-use Rattle.records.specs.Standing.{bytesFrom, valuesFrom}
-use Rattle.records.specs.ReadingSteps.{vertexIn}
+use Rattle.records.specs.Standing.{bytesFrom, valuesFrom, weightOf}
 
 module _ (n r v : ℕ) (f t : List ℕ) where
   abbrev h : Header
   h = headed n r v
 
-  pub landing-from : (s x : ℕ) → s ≡ sum r (λ j. valueIn (bytesFrom f (valuesFrom r)) (vertexIn f v t j)) → x ≡ vertexIn f v t (s % r) → x ≡ landingOf HD h f t
+  -- the r vertices of the code, s the sum of their values, and the one that s leads to
+  pub landing-from : (vertices : List ℕ) (s : ℕ) → Holds r (vertex HD v (weightOf f) t) vertices → s ≡ sum r (λ j. valueIn (bytesFrom f (valuesFrom r)) (getD vertices j 0)) → s % r < r → getD vertices (s % r) 0 ≡ landingOf HD h f t
   unfolding landingOf landing weightIn tableIn valuesAt weightsAt
-  landing-from s x e d = d ∙ ap (λ k. vertexIn f v t (k % r)) e
+  landing-from vertices s h e l = h (s % r) l ∙ ap (λ k. vertex HD v (weightOf f) t (k % r)) (e ∙ sum-equal r _ _ (λ j m. ap (valueIn (bytesFrom f (valuesFrom r))) (h j m)))
 
   -- y is the landing vertex of the code, and k the value there
   pub record Landed (y k : ℕ) : Type 0 where

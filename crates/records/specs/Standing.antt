@@ -57,9 +57,3 @@ pub record Keyed (r v l : ℕ) (f : List ℕ) : Type 0 where
   pub room : Room r v
   pub few : l < mostCodes
   pub long : keyFrom r v (l + 1) ≤ length f
-
--- the weights of part j stand within the file, and the code has no more bytes than they
-pub record Weighed (f t : List ℕ) (j : ℕ) : Type 0 where
-  pub part : j < 3
-  pub long : valuesFrom (j + 1) ≤ length f
-  pub short : length t ≤ mostBytes

@@ -18,7 +18,7 @@ use Rattle.directory.specs.KindLaws.{vertex-below}
 use Rattle.directory.specs.Values.{ranksAt, tableSize, valueIn, rankIn, lineIn}
 use Rattle.directory.specs.File.{weightsAt, valuesAt, keysAt, keyAt, fileLength, weightIn, tableIn, keyHead, codeAt, keyLength, storedCode}
 use Rattle.directory.specs.LookingUp.{holdsCode}
-use Rattle.records.specs.Standing.{mostBytes, bytesFrom, weightOf, valuesFrom, ranksFrom, keyFrom, codeFrom, Room, Tabled, Weighed}
+use Rattle.records.specs.Standing.{bytesFrom, weightOf, valuesFrom, ranksFrom, keyFrom, codeFrom, Room, Tabled}
 
 module _ (n r v : ℕ) where
   abbrev h : Header
@@ -79,9 +79,6 @@ part-most r v s = let a : 1 * v ≤ r * v = mul-le-mul {n₁ = 1} {m₁ = v} {n�
 -- a part starts at no more than 2 times the largest part size
 pub part-start : (j v : ℕ) → j < 3 → v ≤ mostVertices → j * v ≤ 2 * mostVertices
 part-start j v l m = mul-le-mul {n₁ = j} {m₁ = v} {n₂ = 2} {m₂ = mostVertices} (omega arith) m
-
-pub weighed-in : (r v : ℕ) (f t : List ℕ) (j : ℕ) → Tabled r v f → length t ≤ mostBytes → j < r → Weighed f t j
-weighed-in r v f t j s l m = record { part = omega (arith, s .room .three); long = omega (arith, s .long); short = l }
 
 -- vertex j of a code is one of the r·v
 pub vertex-in : (r v : ℕ) (f t : List ℕ) (j : ℕ) → Tabled r v f → j < r → vertex HD v (weightOf f) t j < r * v

@@ -1,5 +1,6 @@
 // The codes of the KY records, compared with a code.
 use crate::numbers::byte;
+use crate::numbers::eight;
 use crate::offsets::MARK;
 use crate::offsets::code_at;
 use crate::offsets::key_at;
@@ -22,20 +23,51 @@ pub fn key_length(file: &[u8], r: usize, v: usize, l: usize) -> usize
     byte(file, key_at(r, v, l) + MARK)
 }
 
-// Whether the bytes of the file from an offset on are those of the code: none of them is unequal.
-pub fn same_bytes(file: &[u8], at: usize, code: &[u8]) -> bool
-    requires { ⌜ (at + length (now code) ≤ length (now file)) × (length (now code) ≤ mostBytes) ⌝ }
+// So many bytes are compared at once.
+const AT_ONCE: usize = 8;
+
+// Whether the bytes of the file from an offset on are those of the code, one by one.
+fn same_singly(file: &[u8], at: usize, code: &[u8]) -> bool
+    requires { ⌜ at + length (now code) ≤ length (now file) ⌝ }
     ensures { λ yes. ⌜ yes ≡ same (take (length (now (code .entry))) (drop at (now (file .entry)))) (now (code .entry)) ⌝ }
 {
-    let mut unequal: u8 = 0;
     let mut i = 0;
     while i < code.len() {
         if file[at + i] != code[i] {
-            unequal += 1;
+            return false;
         }
         i += 1;
     }
-    unequal == 0
+    true
+}
+
+// The same for a code of eight bytes or more, eight at once: last of all its last eight, some of which may have been compared before.
+fn same_by_eights(file: &[u8], at: usize, code: &[u8]) -> bool
+    requires inside { ⌜ at + length (now code) ≤ length (now file) ⌝ }
+    requires long { ⌜ 8 ≤ length (now code) ⌝ }
+    ensures { λ yes. ⌜ yes ≡ same (take (length (now (code .entry))) (drop at (now (file .entry)))) (now (code .entry)) ⌝ }
+{
+    let last = code.len() - AT_ONCE;
+    let mut i = 0;
+    while i < last {
+        if eight(file, at + i) != eight(code, i) {
+            return false;
+        }
+        i += AT_ONCE;
+    }
+    eight(file, at + last) == eight(code, last)
+}
+
+// Whether the bytes of the file from an offset on are those of the code.
+pub fn same_bytes(file: &[u8], at: usize, code: &[u8]) -> bool
+    requires { ⌜ at + length (now code) ≤ length (now file) ⌝ }
+    ensures { λ yes. ⌜ yes ≡ same (take (length (now (code .entry))) (drop at (now (file .entry)))) (now (code .entry)) ⌝ }
+{
+    if code.len() < AT_ONCE {
+        same_singly(file, at, code)
+    } else {
+        same_by_eights(file, at, code)
+    }
 }
 
 // Whether the KY record of line l has the code's length and bytes.

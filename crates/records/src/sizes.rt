@@ -4,7 +4,8 @@ ghost use mathlib.Core.Path.{_≡_};
 ghost use mathlib.Core.Bool.{true};
 ghost use Rattle.directory.specs.Sizes.{arityAllowed, partAllowed, codesAllowed};
 
-const FEWEST_PARTS: usize = 2;
+// Each directory has so many parts at least.
+pub const FEWEST_PARTS: usize = 2;
 
 pub const MOST_VERTICES: usize = 4096;
 

@@ -37,6 +37,11 @@ pub record Wide (m : ℕ) (degrees sums : List ℕ) : Type 0 where
   pub forDegrees : length degrees ≡ m
   pub forSums : length sums ≡ m
 
+-- no edge is on any of them
+pub record Untallied (m : ℕ) (degrees sums : List ℕ) : Type 0 where
+  pub noDegrees : Holds m (λ x. 0) degrees
+  pub noSums : Holds m (λ x. 0) sums
+
 -- the sum of the indices of the edges of the set S that name vertex x
 unfoldable pub indexSum : Graph → (ℕ → Bool) → ℕ → ℕ
 indexSum G S x = sum (G .edges) (λ e. bit (S e && names G e x) * e)

@@ -44,11 +44,11 @@ pub added-none : (r e : ℕ) (edges degrees sums : List ℕ) → Added r e edges
 unfolding times sum
 added-none r e edges degrees sums = record { toDegrees = λ x. omega arith; toSums = λ x. omega arith }
 
-times-more : (r e : ℕ) (edges : List ℕ) (k x : ℕ) → times r e edges (k + 1) x ≡ times r e edges k x + bit (eqb (vertexAt r edges e k) x)
+pub times-more : (r e : ℕ) (edges : List ℕ) (k x : ℕ) → times r e edges (k + 1) x ≡ times r e edges k x + bit (eqb (vertexAt r edges e k) x)
 unfolding times sum
 times-more r e edges k x = rw (add-one k)
 
-times-left : (r e : ℕ) (edges : List ℕ) (k : ℕ) → k < r → times r e edges k (vertexAt r edges e k) + 1 ≤ times r e edges r (vertexAt r edges e k)
+pub times-left : (r e : ℕ) (edges : List ℕ) (k : ℕ) → k < r → times r e edges k (vertexAt r edges e k) + 1 ≤ times r e edges r (vertexAt r edges e k)
 unfolding times
 times-left r e edges k l =
     let x = vertexAt r edges e k in

@@ -1,13 +1,15 @@
 -- The state of the peeling as the arrays have it: removed edges and waiting edges in one array, and a mark for each edge that ever waited. Assumes nothing.
 use mathlib.Core.Path.{_≡_}
+use mathlib.Core.Logic.{_≢_}
 use mathlib.Core.List.{List, [], _++_}
-use Prim.Native.Nat.{ℕ, _+_, _≤_}
-use lib.ListN.{length, take, drop}
+use Prim.Native.Nat.{ℕ, _+_, _-_, _≤_, _<_}
+use lib.ListN.{length, getD, set, take, drop}
 use Rattle.counting.specs.Lists.{occurrences}
 use Rattle.graph.specs.Graph.{Graph}
-use Rattle.graph.specs.Peeling.{unremoved, firstWaiting, removalList}
+use Rattle.graph.specs.Peeling.{unremoved, firstWaiting, peel, removalList}
 use Rattle.graph.specs.Moment.{Sound}
 use Rattle.counting.specs.Holds.{Holds}
+use Rattle.counting.specs.Widths.{twoBytes}
 use Rattle.removal.specs.Arrays.{graphIn, Held, Wide, Tallied}
 
 -- the removed edges stand before `head`, those that wait from there up to `tail`
@@ -16,12 +18,6 @@ removedOf order head = take head order
 
 abbrev pub waitingOf : List ℕ → ℕ → ℕ → List ℕ
 waitingOf order head tail = drop head (take tail order)
-
--- at least one edge is removed, and the queue ends within the array
-pub record Bounds (n head tail : ℕ) : Type 0 where
-  pub some : 1 ≤ head
-  pub low : head ≤ tail
-  pub high : tail ≤ n
 
 -- a mark for each edge that is removed or waits
 abbrev pub Marked : ℕ → List ℕ → List ℕ → List ℕ → Type 0
@@ -43,6 +39,13 @@ pub record Ready (n r m : ℕ) (edges degrees sums queued order removed waiting 
   pub tallied : Tallied (graphIn n r m edges) (unremoved removed) degrees sums
   pub marks : Marked n removed waiting queued
 
+-- between two steps: the arrays are ready, and from here the peeling gives the removal list
+pub record Going (n r m : ℕ) (edges degrees sums queued order : List ℕ) (head tail : ℕ) : Type 0 where
+  pub low : head ≤ tail
+  pub high : tail ≤ n
+  pub ready : Ready n r m edges degrees sums queued order (removedOf order head) (waitingOf order head tail)
+  pub same : peel (graphIn n r m edges) (n - head) (removedOf order head) (waitingOf order head tail) ≡ removalList (graphIn n r m edges)
+
 -- the arrays at its start: the first queue waits
 pub record Starts (n r m : ℕ) (edges degrees sums queued order : List ℕ) (tail : ℕ) : Type 0 where
   pub high : tail ≤ n
@@ -54,3 +57,16 @@ pub record Removed (G : Graph) (degrees sums order : List ℕ) (removed : ℕ) :
   pub most : removed ≤ G .edges
   pub list : removedOf order removed ≡ removalList G
   pub tallied : Tallied G (unremoved (removedOf order removed)) degrees sums
+
+-- ---- an edge joins the back of the queue, at place t
+
+-- there is a mark for edge f, and room for it unless it ever waited
+pub record Joinable (f t : ℕ) (queued order : List ℕ) : Type 0 where
+  pub marked : f < length queued
+  pub fits : f < twoBytes
+  pub room : getD queued f 0 ≡ 0 → t < length order
+
+-- unless it ever waited, it stands there and is marked
+pub record Joined (f t : ℕ) (queued order queued′ order′ : List ℕ) (t′ : ℕ) : Type 0 where
+  pub joins : getD queued f 0 ≡ 0 → (queued′ ≡ set queued f 1) × (order′ ≡ set order t f) × (t′ ≡ t + 1)
+  pub stays : getD queued f 0 ≢ 0 → (queued′ ≡ queued) × (order′ ≡ order) × (t′ ≡ t)

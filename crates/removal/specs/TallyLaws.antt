@@ -8,12 +8,12 @@ use Prim.Native.Nat.{ℕ, _+_, _*_, _≤_, _<_}
 use native.Mathlib.Nat.{mul-le-mul-right, mul-le-mul-left}
 use native.Mathlib.Omega.{arith}
 use lib.Dec.{eqb, ltb}
-use lib.ListN.{length}
+use lib.ListN.{length, getD}
 use borrow.Author.Tests.{eqb-true, lt-ltb, le-ltb}
 use Rattle.counting.specs.TestLaws.{lt?, and-both}
 use Rattle.counting.specs.Below.{sum, bit}
 use Rattle.counting.specs.BelowLaws.{sum-mono, sum-zero, sum-equal, sum-constant}
-use Rattle.counting.specs.CountLaws.{bit-most, count-most, count-place}
+use Rattle.counting.specs.CountLaws.{bit-most, bit-self, count-most, count-place}
 use Rattle.counting.specs.SearchLaws.{count-any}
 use Rattle.graph.specs.Graph.{Graph, names, degreeIn}
 use Rattle.graph.specs.Peeling.{unremoved, degree, oneLeft}
@@ -21,8 +21,9 @@ use Rattle.graph.specs.DegreeLaws.{OneMore, absent-unremoved, weighed-more, deg
 use Rattle.graph.specs.QueueLaws.{one-left}
 use Rattle.counting.specs.Holds.{Holds}
 use Rattle.counting.specs.Widths.{twoBytes}
-use Rattle.removal.specs.Arrays.{vertexAt, graphIn, Held, Vertices, Wide, indexSum, Tallied}
+use Rattle.removal.specs.Arrays.{vertexAt, graphIn, Held, Vertices, Wide, Untallied, indexSum, Tallied}
 use Rattle.removal.specs.Linking.{fourBytes, times, Added, Room, Enough}
+use Rattle.removal.specs.LinkingSteps.{times-more, times-left}
 
 -- the vertices of an edge can be read, and are places of an array that is wide enough
 pub held-vertices : {n r m : ℕ} {edges : List ℕ} → Held n r m edges → {e : ℕ} → e < n → (w : ℕ) → m ≤ w → Vertices r e edges w
@@ -39,12 +40,12 @@ first-one-more k =
     }
 
 -- no edge: all entries are 0
-pub tallied-none : (G : Graph) (D C : List ℕ) → Holds (G .vertices) (λ x. 0) D → Holds (G .vertices) (λ x. 0) C → Tallied G (λ e. ltb e 0) D C
+pub tallied-none : (G : Graph) {D C : List ℕ} → Untallied (G .vertices) D C → Tallied G (λ e. ltb e 0) D C
 unfolding degreeIn indexSum
-tallied-none G D C d c =
+tallied-none G u =
     record {
-      ofDegrees = λ x l. d x l ∙ sym (sum-zero (G .edges) _ (λ e m. ap (λ b. bit (b && names G e x)) (le-ltb e 0 (omega arith))));
-      ofSums = λ x l. c x l ∙ sym (sum-zero (G .edges) _ (λ e m. ap (λ b. bit (b && names G e x) * e) (le-ltb e 0 (omega arith)) ∙ omega arith));
+      ofDegrees = λ x l. u .noDegrees x l ∙ sym (sum-zero (G .edges) _ (λ e m. ap (λ b. bit (b && names G e x)) (le-ltb e 0 (omega arith))));
+      ofSums = λ x l. u .noSums x l ∙ sym (sum-zero (G .edges) _ (λ e m. ap (λ b. bit (b && names G e x) * e) (le-ltb e 0 (omega arith)) ∙ omega arith));
     }
 
 pub tallied-equal : {G : Graph} {S : ℕ → Bool} {D C : List ℕ} → Tallied G S D C → (R : ℕ → Bool) → ((e : ℕ) → e < G .edges → S e ≡ R e) → Tallied G R D C
@@ -90,6 +91,21 @@ module _ {n r m : ℕ} {edges : List ℕ} (held : Held n r m edges) {S R : ℕ �
           ofDegrees = λ x k. omega (arith, a .toDegrees x, t .ofDegrees x k, degree-is x);
           ofSums = λ x k. omega (arith, a .toSums x, t .ofSums x k, sum-is x);
         }
+
+  -- once the first k vertices and one more are off, that one has the degree and the sum that it has without the edge
+
+  module _ {D C D′ C′ : List ℕ} (k : ℕ) (h : k < r) (a : Added r e edges (k + 1) D′ C′ D C) (t : Tallied G R D C) where
+    abbrev x : ℕ
+    x = vertexAt r edges e k
+
+    times-all : times r e edges (k + 1) x ≡ times r e edges r x
+    times-all = omega (arith, times-more r e edges k x, bit-self x, times-left r e edges k h, times-names x, bit-most (names G e x))
+
+    pub left-degree : getD D′ x 0 ≡ degreeIn G S x
+    left-degree = omega (arith, a .toDegrees x, t .ofDegrees x (held .proper .inside e k l h), degree-is x, times-all)
+
+    pub left-sum : getD C′ x 0 ≡ indexSum G S x
+    left-sum = omega (arith, a .toSums x, t .ofSums x (held .proper .inside e k l h), sum-is x, ap (λ i. i * e) times-all)
 
   -- ---- they fit
 

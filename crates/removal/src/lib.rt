@@ -8,10 +8,10 @@ use crate::queue::peel;
 use crate::tally::tally;
 ghost use mathlib.Core.Path.{_≡_};
 ghost use lib.ListN.{length};
-ghost use Rattle.removal.specs.Arrays.{Held, graphIn};
+ghost use Rattle.removal.specs.Arrays.{Held, Untallied, graphIn};
 ghost use Rattle.removal.specs.Queue.{Removed};
 
-// Peels all edges that can be removed, and returns how many were: they stand in order, first removed first. `queued` marks each edge that ever waited.
+// Peels all edges that can be removed, and returns how many were: they stand in order, first removed first. `queued` marks each edge that ever waited. `degrees` and `sums` are lent with 0 in each place.
 pub fn remove_all(
     r: usize,
     edges: &[u16],
@@ -22,6 +22,7 @@ pub fn remove_all(
 ) -> usize
     requires held { ⌜ Held (length (now order)) r (length (now degrees)) (now edges) ⌝ }
     requires even { ⌜ (length (now sums) ≡ length (now degrees)) × (length (now queued) ≡ length (now order)) ⌝ }
+    requires clear { ⌜ Untallied (length (now degrees)) (now degrees) (now sums) ⌝ }
     ensures { λ removed. ⌜ Removed (graphIn (length (now (order .entry))) r (length (now (degrees .entry))) (now (edges .entry))) (now (degrees .exit)) (now (sums .exit)) (now (order .exit)) removed ⌝ }
 {
     tally(order.len(), r, edges, degrees, sums);

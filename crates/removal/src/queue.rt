@@ -1,15 +1,14 @@
 // The waiting queue and the removal list in one array: the removed edges stand before `head`, those that wait from there up to `tail`.
 use crate::edges::vertex;
 use crate::tally::first_of_degree;
-use crate::tally::unlink;
 ghost use mathlib.Core.Path.{_≡_};
 ghost use mathlib.Core.List.{[]};
-ghost use Prim.Native.Nat.{_-_};
-ghost use lib.ListN.{length, getD};
-ghost use Rattle.graph.specs.Peeling.{degree, firstWaiting, followAll};
+ghost use Prim.Native.Nat.{_+_, _<_};
+ghost use lib.ListN.{length};
+ghost use Rattle.graph.specs.Peeling.{degree, firstWaiting};
 ghost use Rattle.counting.specs.Holds.{Holds};
 ghost use Rattle.removal.specs.Arrays.{Held, graphIn};
-ghost use Rattle.removal.specs.Queue.{Ready, Queued, Bounds, Starts, Removed, removedOf, waitingOf};
+ghost use Rattle.removal.specs.Queue.{Queued, Joinable, Joined, Going, Starts, Removed};
 
 // The first queue: every edge, in list order, that has a vertex of degree 1. Returns its length, and marks the edges in it.
 pub fn first_queue(
@@ -39,33 +38,45 @@ pub fn first_queue(
     t
 }
 
-// Edge order[head - 1] was removed last: each of its vertices that has degree 1 now lets its one edge join. Returns the new end of the queue.
-fn enqueue(
+// Edge f joins the back of the queue, at place t, unless it ever waited. Returns the new end of the queue.
+fn join_back(f: usize, t: usize, queued: &mut [u16], order: &mut [u16]) -> usize
+    requires { ⌜ Joinable f t (now queued) (now order) ⌝ }
+    ensures { λ end. ⌜ Joined f t (now (queued .entry)) (now (order .entry)) (now (queued .exit)) (now (order .exit)) end ⌝ }
+{
+    if queued[f] == 0 {
+        queued[f] = 1;
+        order[t] = f as u16;
+        return t + 1;
+    }
+    t
+}
+
+// Removes the front edge: takes it off each of its vertices, and where one edge is left there lets that one join. Returns the new end of the queue.
+fn remove_front(
     r: usize,
     head: usize,
     tail: usize,
     edges: &[u16],
-    degrees: &[u16],
-    sums: &[u32],
+    degrees: &mut [u16],
+    sums: &mut [u32],
     queued: &mut [u16],
     order: &mut [u16],
 ) -> usize
-    requires bounds { ⌜ Bounds (length (now order)) head tail ⌝ }
-    requires ready { ⌜ Ready (length (now order)) r (length (now degrees)) (now edges) (now degrees) (now sums) (now queued) (now order) (removedOf (now order) head) (waitingOf (now order) head tail) ⌝ }
-    ensures { λ t. ⌜ Queued (length (now (order .entry))) (removedOf (now (order .entry)) head) (followAll (graphIn (length (now (order .entry))) r (length (now (degrees .entry))) (now (edges .entry))) (removedOf (now (order .entry)) head) (getD (now (order .entry)) (head - 1) 0) r (waitingOf (now (order .entry)) head tail)) (now (queued .exit)) (now (order .exit)) t ⌝ }
+    requires some { ⌜ head < tail ⌝ }
+    requires going { ⌜ Going (length (now order)) r (length (now degrees)) (now edges) (now degrees) (now sums) (now queued) (now order) head tail ⌝ }
+    ensures { λ t. ⌜ Going (length (now (order .entry))) r (length (now (degrees .entry))) (now (edges .entry)) (now (degrees .exit)) (now (sums .exit)) (now (queued .exit)) (now (order .exit)) (head + 1) t ⌝ }
 {
-    let e = order[head - 1] as usize;
+    let e = order[head] as usize;
     let mut t = tail;
     let mut j = 0;
     while j < r {
         let x = vertex(r, e, j, edges);
-        if degrees[x] == 1 {
-            let f = sums[x] as usize;
-            if queued[f] == 0 {
-                queued[f] = 1;
-                order[t] = f as u16;
-                t += 1;
-            }
+        let degree = degrees[x] - 1;
+        let sum = sums[x] - e as u32;
+        degrees[x] = degree;
+        sums[x] = sum;
+        if degree == 1 {
+            t = join_back(sum as usize, t, queued, order);
         }
         j += 1;
     }
@@ -88,10 +99,8 @@ pub fn peel(
     let mut head = 0;
     let mut t = tail;
     while head < t {
-        let e = order[head] as usize;
-        unlink(r, e, edges, degrees, sums);
+        t = remove_front(r, head, t, edges, degrees, sums, queued, order);
         head += 1;
-        t = enqueue(r, head, t, edges, degrees, sums, queued, order);
     }
     head
 }

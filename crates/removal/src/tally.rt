@@ -6,22 +6,8 @@ ghost use lib.Dec.{eqb};
 ghost use lib.ListN.{length, getD};
 ghost use Rattle.counting.specs.Below.{lowest};
 ghost use Rattle.graph.specs.Peeling.{unremoved};
-ghost use Rattle.counting.specs.Holds.{Holds};
-ghost use Rattle.removal.specs.Arrays.{Held, graphIn, vertexAt, Vertices, Tallied};
-ghost use Rattle.removal.specs.Linking.{Room, Enough, Added};
-
-// No edge on any vertex.
-fn clear(degrees: &mut [u16], sums: &mut [u32])
-    requires { ⌜ length (now sums) ≡ length (now degrees) ⌝ }
-    ensures { λ _. ⌜ Holds (length (now (degrees .entry))) (λ x. 0) (now (degrees .exit)) × Holds (length (now (degrees .entry))) (λ x. 0) (now (sums .exit)) ⌝ }
-{
-    let mut x = 0;
-    while x < degrees.len() {
-        degrees[x] = 0;
-        sums[x] = 0;
-        x += 1;
-    }
-}
+ghost use Rattle.removal.specs.Arrays.{Held, graphIn, vertexAt, Vertices, Untallied, Tallied};
+ghost use Rattle.removal.specs.Linking.{Room, Added};
 
 // Puts edge e on its r vertices.
 pub fn link(r: usize, e: usize, edges: &[u16], degrees: &mut [u16], sums: &mut [u32])
@@ -37,27 +23,13 @@ pub fn link(r: usize, e: usize, edges: &[u16], degrees: &mut [u16], sums: &mut [
     }
 }
 
-// Takes edge e off its r vertices.
-pub fn unlink(r: usize, e: usize, edges: &[u16], degrees: &mut [u16], sums: &mut [u32])
-    requires { ⌜ Enough r e (now edges) (now degrees) (now sums) ⌝ }
-    ensures { λ _. ⌜ Added r e (now (edges .entry)) r (now (degrees .exit)) (now (sums .exit)) (now (degrees .entry)) (now (sums .entry)) ⌝ }
-{
-    let mut j = 0;
-    while j < r {
-        let x = vertex(r, e, j, edges);
-        degrees[x] = degrees[x] - 1;
-        sums[x] = sums[x] - e as u32;
-        j += 1;
-    }
-}
-
-// Puts all n edges on their vertices.
+// Puts all n edges on their vertices, where none is on any of them.
 pub fn tally(n: usize, r: usize, edges: &[u16], degrees: &mut [u16], sums: &mut [u32])
     requires held { ⌜ Held n r (length (now degrees)) (now edges) ⌝ }
     requires even { ⌜ length (now sums) ≡ length (now degrees) ⌝ }
+    requires clear { ⌜ Untallied (length (now degrees)) (now degrees) (now sums) ⌝ }
     ensures { λ _. ⌜ Tallied (graphIn n r (length (now (degrees .entry))) (now (edges .entry))) (unremoved []) (now (degrees .exit)) (now (sums .exit)) ⌝ }
 {
-    clear(degrees, sums);
     let mut e = 0;
     while e < n {
         link(r, e, edges, degrees, sums);

@@ -1,4 +1,5 @@
 pub mod Ready
 pub mod ValueSteps
 pub mod FrontSteps
+pub mod KeySteps
 pub mod FileSteps

@@ -4,7 +4,6 @@ use lists::ends::code;
 use records::offsets::POSITIONS;
 use storing::put_byte;
 use storing::put_bytes;
-use storing::put_zeros;
 ghost use mathlib.Core.Path.{_≡_};
 ghost use Prim.Native.Nat.{_+_, _*_, _<_, _≤_};
 ghost use lib.ListN.{length, getD};
@@ -16,17 +15,18 @@ ghost use Rattle.directory.specs.Kind.{HD};
 ghost use Rattle.directory.specs.File.{keyHead, keyRecord};
 ghost use Rattle.writer.specs.Ready.{LineCodes};
 
-// A code, under KY: its length, its bytes, and zero after them.
+// A code, under KY: its length, its bytes, and zero after them. An array of its own, which nothing else names, is copied to and from all at once.
 fn put_key(buffer: &mut [u8], at: usize, code: &[u8]) -> usize
     requires short { ⌜ length (now code) ≤ HD .positions ⌝ }
     requires room { ⌜ at + (keyHead + HD .positions) ≤ length (now buffer) ⌝ }
     ensures written { λ to. ⌜ ((h : Header) → Wrote at (keyRecord HD h (now (code .entry))) (now (buffer .entry)) (now (buffer .exit)) to) ⌝ }
     ensures past { λ to. ⌜ to ≡ at + (keyHead + HD .positions) ⌝ }
 {
+    let mut filled = [0u8; POSITIONS];
+    put_bytes(&mut filled, 0, code);
     let length_at = put_mark(buffer, at, b'K', b'Y');
     let code_at = put_byte(buffer, length_at, code.len() as u8);
-    let filling_at = put_bytes(buffer, code_at, code);
-    put_zeros(buffer, filling_at, POSITIONS - code.len())
+    put_bytes(buffer, code_at, &filled)
 }
 
 // The codes in the order of their lines: line l has code keys[l].

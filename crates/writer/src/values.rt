@@ -34,7 +34,17 @@ fn pack(a: u8, b: u8, c: u8, d: u8) -> u8
     a | (b << SECOND) | (c << THIRD) | (d << FOURTH)
 }
 
-// Byte b of the values.
+// Byte b of the values, whose four are all there.
+fn full_byte(values: &[u8], b: usize) -> u8
+    requires small { ⌜ Small (now values) ⌝ }
+    requires there { ⌜ 4 * b + 3 < length (now values) ⌝ }
+    ensures { λ k. ⌜ k ≡ packedOf (spareZero (length (now (values .entry))) (λ x. getD (now (values .entry)) x 0)) b ⌝ }
+{
+    let x = PER_BYTE * b;
+    pack(values[x], values[x + 1], values[x + 2], values[x + 3])
+}
+
+// Byte b of the values, which may have spare bits.
 fn packed(values: &[u8], b: usize) -> u8
     requires small { ⌜ Small (now values) ⌝ }
     requires few { ⌜ b < mostVertices ⌝ }
@@ -56,12 +66,15 @@ pub fn put_packed(buffer: &mut [u8], at: usize, values: &[u8]) -> usize
     ensures written { λ to. ⌜ Wrote at (each ((length (now (values .entry)) + 3) / 4) (λ b. packedOf (spareZero (length (now (values .entry))) (λ x. getD (now (values .entry)) x 0)) b ∷ [])) (now (buffer .entry)) (now (buffer .exit)) to ⌝ }
     ensures past { λ to. ⌜ to ≡ at + (length (now (values .entry)) + 3) / 4 ⌝ }
 {
-    let bytes = (values.len() + (PER_BYTE - 1)) / PER_BYTE;
+    let full_bytes = values.len() / PER_BYTE;
     let mut to = at;
     let mut b = 0;
-    while b < bytes {
-        to = put_byte(buffer, to, packed(values, b));
+    while b < full_bytes {
+        to = put_byte(buffer, to, full_byte(values, b));
         b += 1;
+    }
+    if PER_BYTE * b < values.len() {
+        return put_byte(buffer, to, packed(values, b));
     }
     to
 }

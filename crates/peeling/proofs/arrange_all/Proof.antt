@@ -30,7 +30,7 @@ module _ (c : tie.After-remove-all) where
   kept-degrees = c .remove-all .kept .1 .1 .0
 
   all : n ≤ c .remove-all .result → AllRemoved n (s .args .r) m (s .args .edges .now) order (c .remove-all .last .1 .1 .0) (c .remove-all .last .1 .1 .1 .0) (s .args .values .now)
-  all h = removed-every (c .remove-all .ensures) kept-order h (s .pre .held) (record { forDegrees = kept-degrees; forSums = c .remove-all .kept .1 .1 .1 .0 ∙ s .pre .forSums }) _ (s .pre .forValues)
+  all h = removed-every (c .remove-all .ensures) kept-order h (s .pre .0 .held) (record { forDegrees = kept-degrees; forSums = c .remove-all .kept .1 .1 .1 .0 ∙ s .pre .0 .forSums }) _ (s .pre .0 .forValues)
 
 abbrev then : tie.Then1 → tie.After-remove-all
 then c = c .before .before .before .before .before .before .before .before .before
@@ -39,7 +39,7 @@ abbrev else : tie.Else1 → tie.After-remove-all
 else c = c .before .before .before .before .before .before .before .before .before
 
 remove-all-requires : tie.Need-remove-all-requires
-remove-all-requires c κs = let p = c .before .before .before .before .before .before .before .before .before .before .before .pre in (p .held, (p .forSums, p .forKeys))
+remove-all-requires c κs = let p = c .before .before .before .before .before .before .before .before .before .before .before .pre in (p .0 .held, ((p .0 .forSums, p .0 .forKeys), p .1))
 
 sub-result : tie.Need-sub-result
 sub-result c = omega arith
@@ -65,7 +65,7 @@ give-lines-requires : tie.Need-give-lines-requires
 give-lines-requires c κs =
     let e = c .before .before .before .before .before .before in
     let d = else e in
-    let p = s d .pre in
+    let p = s d .pre .0 in
     rw (kept-order d, kept-degrees d) (all d (omega (arith, e .if1 .left, kept-order d)), (p .forRank, d .remove-all .kept .1 .1 .1 .1 .0 ∙ p .forKeys))
 
 -- once the lines are given

@@ -25,20 +25,20 @@ module _ (c : tie.After-first-queue) where
   starts =
       let p = start tallied .pre in
       starts-ready (p .0)
-      (record { forDegrees = kept tallied; forSums = tallied .tally .kept .1 .1 .1 .1 .0 ∙ p .1 .0 })
-      (c .first-queue .kept .1 .1 .1 .0 ∙ p .1 .1)
+      (record { forDegrees = kept tallied; forSums = tallied .tally .kept .1 .1 .1 .1 .0 ∙ p .1 .0 .0 })
+      (c .first-queue .kept .1 .1 .1 .0 ∙ p .1 .0 .1)
       kept-order
       (tallied .tally .ensures)
       (rw (kept tallied) at (c .first-queue .ensures))
 
 tally-requires : tie.Need-tally-requires
-tally-requires c κs = let p = c .before .before .before .before .before .before .before .pre in (p .0, p .1 .0)
+tally-requires c κs = let p = c .before .before .before .before .before .before .before .pre in (p .0, (p .1 .0 .0, p .1 .1))
 
 first-queue-requires : tie.Need-first-queue-requires
 first-queue-requires c κs =
     let t = c .before .before .before .before .before .before .before in
     let p = start t .pre in
-    rw (kept t) (p .0, (p .1 .1, t .tally .ensures .ofDegrees))
+    rw (kept t) (p .0, (p .1 .0 .1, t .tally .ensures .ofDegrees))
 
 peel-requires : tie.Need-peel-requires
 peel-requires c κs = let q = c .before .before .before .before .before .before .before .before in rw (kept (tallied q), kept-order q) (starts q)

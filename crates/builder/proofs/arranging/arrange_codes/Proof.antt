@@ -1,8 +1,9 @@
 -- `builder::arranging::arrange_codes` meets its contract. Assumes nothing.
 use mathlib.Core.List.{[]}
 use native.Mathlib.Omega.{arith}
-use lib.ListN.{length}
+use lib.ListN.{length, getD-replicate}
 use borrow.Author.Needs.{needs}
+use Rattle.directory.specs.Sizes.{mostVertices}
 use Rattle.builder.specs.GraphsLaws.{named-most, edges-held, arranged-list}
 use Rattle.builder.proofs.arranging.arrange_codes.Statement.{statement}
 use Rattle.builder.proofs.arranging.arrange_codes.Tie as tie
@@ -35,14 +36,17 @@ arrange-requires c κs =
     let p = start n .pre in
     let room = named-most (length (a .ends .now)) (a .r) (p .sizes .few) (p .sizes .three) in (
       edges-held (a .run .now) (a .ends .now) (a .r) (a .v) (a .weights .now) [] _ (n .name-edges .ensures) (p .sizes) (omega (arith, room, n .name-edges .kept .1 .1 .1 .1 .1 .0)),
-      record {
-        forDegrees = p .sizes .room;
-        forSums = p .sizes .room;
-        forOrder = p .sizes .few;
-        forValues = p .forValues;
-        forRank = p .forRank;
-        forKeys = p .forKeys;
-      },
+      (
+        record {
+          forDegrees = p .sizes .room;
+          forSums = p .sizes .room;
+          forOrder = p .sizes .few;
+          forValues = p .forValues;
+          forRank = p .forRank;
+          forKeys = p .forKeys;
+        },
+        record { noDegrees = λ x l. getD-replicate mostVertices x 0 0 (omega (arith, p .sizes .room)); noSums = λ x l. getD-replicate mostVertices x 0 0 (omega (arith, p .sizes .room)) },
+      ),
     )
 
 same-length : tie.Need-same-length

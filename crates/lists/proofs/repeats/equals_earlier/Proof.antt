@@ -3,14 +3,12 @@ use mathlib.Core.Path.{_≡_, refl, sym, ap, _∙_}
 use mathlib.Core.Bool.{false}
 use Prim.Native.Nat.{ℕ, _-_, _≤_, _<_}
 use native.Mathlib.Omega.{arith}
-use lib.ListN.{length}
 use denote.Ref.{now}
 use borrow.Author.Count.{below-more}
 use borrow.Author.Needs.{needs}
 use Rattle.counting.specs.Lists.{same}
 use Rattle.counting.specs.SearchLaws.{any-has, any-none}
 use Rattle.directory.specs.Codes.{start as startOf, code, repeated, Runs}
-use Rattle.directory.specs.CodesLaws.{code-length}
 use Rattle.directory.specs.Kind.{HD}
 use Rattle.lists.specs.CodeSteps.{start-first, start-after, part-is-code}
 use Rattle.lists.proofs.repeats.equals_earlier.Statement.{statement}
@@ -38,16 +36,8 @@ end-requires c κs = search needs
 earlier : (c : tie.In-loop Inv-loop μ-loop) → let a = start (c .before) .args in Runs (HD .positions) (a .run .now) (a .ends .now) (c .before .loop .i)
 earlier c = start (c .before) .pre .0 (c .before .loop .i) (omega arith)
 
--- .. and code k is no longer than a code may be
-short : (c : tie.At-loop Inv-loop μ-loop) → length (now (c .before .code .result)) ≤ HD .positions
-short c =
-    let s = start c in
-    let a = s .args in
-    let r = s .pre .0 (a .k) (s .pre .1) in
-    rw (c .before .code .ensures, code-length (HD .positions) (a .run .now) (a .ends .now) (a .k) r) (omega (arith, r .short))
-
 same-code-requires : tie.Need-same-code-requires Inv-loop μ-loop
-same-code-requires c κs = let r = earlier (c .before) in (omega (arith, r .some), omega (arith, r .inside), short (c .before .before))
+same-code-requires c κs = let r = earlier (c .before) in (omega (arith, r .some), omega (arith, r .inside))
 
 -- what the call says of code i
 said : (c : tie.After-same-code Inv-loop μ-loop) → let l = c .before .before .before in let a = start l .args in c .same-code .result ≡ same (code (a .run .now) (a .ends .now) (l .loop .i)) (code (a .run .now) (a .ends .now) (a .k))

@@ -1,8 +1,8 @@
--- `peeling::assigning::assign` meets its contract. The invariant: the last `done` edges of the removal list have their values and are back on their vertices. The measure is the number of the others. Assumes nothing.
+-- `peeling::assigning::assign` meets its contract. The invariant: the last `done` edges of the removal list have their values. The measure is the number of the others. Assumes nothing.
 use mathlib.Core.Path.{_≡_, refl, sym, ap, _∙_}
 use Prim.Native.Nat.{ℕ, _+_, _-_, _≤_, _<_}
 use native.Mathlib.Omega.{arith}
-use lib.ListN.{length, getD}
+use lib.ListN.{length, getD, drop}
 use Rattle.graph.specs.Peeling.{removalList}
 use Rattle.removal.specs.Arrays.{graphIn}
 use Rattle.peeling.specs.Assigning.{Free}
@@ -11,10 +11,13 @@ use Rattle.peeling.proofs.assigning.assign.Statement.{statement}
 use Rattle.peeling.proofs.assigning.assign.Tie as tie
 
 abbrev Inv-loop : tie.InvT-loop
-Inv-loop r edges order degrees₀ sums₀ values₀ n done₀ degrees sums values done = (n ≡ length order) × (done ≤ n) × Back (length order) r (length degrees₀) edges degrees sums values (n - done)
+Inv-loop r edges order visited₀ landed₀ values₀ n done₀ visited landed values done =
+    (n ≡ length order)
+    × (done ≤ n)
+    × Back (length order) r (length visited₀) edges visited landed values (drop (n - done) (removalList (graphIn (length order) r (length visited₀) edges)))
 
 abbrev μ-loop : tie.MeasureT-loop
-μ-loop r edges order degrees₀ sums₀ values₀ n done₀ degrees sums values done = n - done
+μ-loop r edges order visited₀ landed₀ values₀ n done₀ visited landed values done = n - done
 
 abbrev start : tie.After-unassign Inv-loop μ-loop → tie.Start Inv-loop μ-loop
 start c = c .before .before .before .before .before .before .before
@@ -31,7 +34,7 @@ module _ (c : tie.In-loop Inv-loop μ-loop) where
   k = n - (c .before .loop .done + 1)
 
   abbrev m : ℕ
-  m = length (s .args .degrees .now)
+  m = length (s .args .visited .now)
 
   abbrev e : ℕ
   e = getD (s .args .order .now) k 0
@@ -39,13 +42,13 @@ module _ (c : tie.In-loop Inv-loop μ-loop) where
   k-below : k < n
   k-below = omega (arith, c .loop-test .taken)
 
-  back : Back n (s .args .r) m (s .args .edges .now) (c .before .loop .degrees) (c .before .loop .sums) (c .before .loop .values) (k + 1)
+  back : Back n (s .args .r) m (s .args .edges .now) (c .before .loop .visited) (c .before .loop .landed) (c .before .loop .values) (drop (k + 1) (removalList (graphIn n (s .args .r) m (s .args .edges .now))))
   back = let i : k + 1 ≡ n - c .before .loop .done = omega (arith, c .loop-test .taken) in rw i (c .before .loop .inv .2)
 
   e-is : e ≡ getD (removalList (graphIn n (s .args .r) m (s .args .edges .now))) k 0
   e-is = ap (λ l. getD l k 0) (s .pre .list)
 
-  free : Free (s .args .r) e (s .args .edges .now) (c .before .loop .degrees) (c .before .loop .sums) (c .before .loop .values)
+  free : Free (s .args .r) e (s .args .edges .now) (c .before .loop .visited) (c .before .loop .landed) (c .before .loop .values)
   free = rw e-is (back-free (s .pre .held) (s .pre .nothing) k k-below back)
 
 assign-edge-requires : tie.Need-assign-edge-requires Inv-loop μ-loop
@@ -74,7 +77,7 @@ shared-slice-read-assign-edge : tie.Need-shared-slice-read-assign-edge Inv-loop 
 shared-slice-read-assign-edge c = omega arith
 
 cast-assign-edge : tie.Need-cast-assign-edge Inv-loop μ-loop
-cast-assign-edge c = omega (arith, free (c .before) .room .edge)
+cast-assign-edge c = omega (arith, free (c .before) .isEdge)
 
 loop-less : tie.Need-loop-less Inv-loop μ-loop
 loop-less c = omega arith
@@ -100,7 +103,7 @@ same-length-3 : tie.Need-same-length-3 Inv-loop μ-loop
 same-length-3 c = c .before .loop .inv .2 .forValues ∙ sym (start (c .before .before .before .before) .pre .forValues)
 
 returns : tie.Need-returns Inv-loop μ-loop
-returns c = let z : length (start (c .before .before .before .before) .args .order .now) - c .before .loop .done ≡ 0 = omega arith in back-all (rw z at (c .before .loop .inv .2))
+returns c = let z : length (start (c .before .before .before .before) .args .order .now) - c .before .loop .done ≡ 0 = omega arith in back-all (start (c .before .before .before .before) .pre .nothing) (rw z at (c .before .loop .inv .2))
 
 pub assign-spec : {M : Type 1} → statement M
 assign-spec =

@@ -1,17 +1,24 @@
 -- `reader::showing::show` meets its contract. Assumes nothing.
-use mathlib.Core.Path.{_≡_, refl, sym, _∙_}
+use mathlib.Core.Path.{refl, ap}
+use native.Mathlib.Omega.{arith}
+use Prim.Native.Nat.{_+_, _≤_}
+use lib.ListN.{length}
+use denote.Ref.{ptr}
 use borrow.Author.Needs.{needs}
-use Rattle.directory.specs.declared.Opening.the-variants.{Opened}
-use Rattle.directory.specs.Calls.{headerOf}
-use Rattle.reader.specs.AfterHeader.{header-framed, show-refused, show-part}
+use Rattle.directory.specs.declared.Part.{Part}
+use Rattle.reader.specs.PartLaws.{shown-within, shown-bytes}
 use Rattle.reader.proofs.showing.show.Statement.{statement}
 use Rattle.reader.proofs.showing.show.Tie as tie
 
-header-requires : tie.Need-header-requires
-header-requires c κs = search needs
+part-requires : tie.Need-part-requires
+part-requires c κs = search needs
 
-enum-told : tie.Need-enum-told
-enum-told c = search needs
+-- the part lies within the file
+within : (c : tie.After-struct-known) → let p = c .before .part .result in p .start + p .size ≤ length (c .before .before .before .args .file .now)
+within c = shown-within _ _ _ (c .before .part .ensures)
+
+add-end : tie.Need-add-end
+add-end c = omega (arith, within c)
 
 sub-result : tie.Need-sub-result
 sub-result c = search needs
@@ -20,46 +27,11 @@ part-result-start : tie.Need-part-result-start
 part-result-start c = search needs
 
 part-result-end : tie.Need-part-result-end
-part-result-end c = search needs
-
-enum-known-n : tie.Need-enum-known-n
-enum-known-n c = search needs
-
-cast-key-part : tie.Need-cast-key-part
-cast-key-part c = search needs
-
-cast-key-part-2 : tie.Need-cast-key-part-2
-cast-key-part-2 c = search needs
-
-cast-key-part-3 : tie.Need-cast-key-part-3
-cast-key-part-3 c = search needs
-
--- the header is right
-right : (c : tie.After-n) → let g = c .n .given .0 in Opened (g .0) (g .1 .0) (g .1 .1 .0) ≡ headerOf (c .before .before .before .before .args .file .now)
-right c = sym (c .n .given .1) ∙ c .before .before .header .ensures .0
-
-key-part-requires : tie.Need-key-part-requires
-key-part-requires c κs = header-framed _ _ _ _ (right (c .before))
+part-result-end c = omega (arith, within c)
 
 returns : tie.Need-returns
-returns c = let p = c .before in rw (← show-refused _ _ _ (sym (p .enum-told .given .1) ∙ p .before .before .header .ensures .0) _) record { bytes = refl; block = refl; from = refl }
-
-returns-2 : tie.Need-returns-2
-returns-2 c = rw (← show-part _ _ _ _ (right (c .before .before)) _) (c .key-part .ensures)
+returns c = let e = c .before .before .part .ensures in record { bytes = shown-bytes _ _ _ e; block = refl; from = ap (λ (p : Part). p .start + ptr (c .before .before .before .before .args .file) .1) e }
 
 pub show-spec : {M : Type 1} → statement M
 show-spec =
-    tie.close
-    (tie.spec
-    header-requires
-    enum-told
-    sub-result
-    part-result-start
-    part-result-end
-    enum-known-n
-    cast-key-part
-    cast-key-part-2
-    cast-key-part-3
-    key-part-requires
-    returns
-    returns-2)
+    tie.close (tie.spec part-requires add-end sub-result part-result-start part-result-end returns)

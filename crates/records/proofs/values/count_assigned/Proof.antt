@@ -1,61 +1,43 @@
--- `records::values::count_assigned` meets its contract. The invariant: c is the count of the first i values. The measure is what is left of k. Assumes nothing.
-use mathlib.Core.Path.{_≡_, sym, ap, _∙_}
-use mathlib.Core.Logic.{⊎-elim}
-use Prim.Native.Nat.{_+_, _-_, _≤_}
+-- `records::values::count_assigned` meets its contract. Assumes nothing.
+use Prim.Native.Nat.{_*_, _/_}
 use native.Mathlib.Omega.{arith}
-use Rattle.counting.specs.Below.{count}
-use Rattle.counting.specs.BelowLaws.{sum-none}
-use Rattle.graph.specs.Assignment.{assigned}
-use Rattle.directory.specs.Values.{valueIn}
-use Rattle.records.specs.Standing.{bytesFrom}
-use Rattle.records.specs.ReadingSteps.{assigned-counts, unassigned-counts-not}
+use borrow.Author.Needs.{needs}
+use Rattle.records.specs.ReadingSteps.{count-in-two}
 use Rattle.records.proofs.values.count_assigned.Statement.{statement}
 use Rattle.records.proofs.values.count_assigned.Tie as tie
 
-abbrev Inv-loop : tie.InvT-loop
-Inv-loop file at r from k c₀ i₀ c i = (i ≤ k) × (c ≡ count i (λ j. assigned r (valueIn (bytesFrom file at) (from + j)))) × (c ≤ i)
+mul-whole : tie.Need-mul-whole
+mul-whole c = search needs
 
-abbrev μ-loop : tie.MeasureT-loop
-μ-loop file at r from k c₀ i₀ c i = k - i
+count-fours-requires : tie.Need-count-fours-requires
+count-fours-requires c κs = search needs
 
-loop-holds : tie.Need-loop-holds Inv-loop μ-loop
-loop-holds c = (omega arith, sym (sum-none _), omega arith)
+add-count-singly : tie.Need-add-count-singly
+add-count-singly c = search needs
 
-add-value : tie.Need-add-value Inv-loop μ-loop
-add-value c = omega arith
+sub-count-singly : tie.Need-sub-count-singly
+sub-count-singly c = search needs
 
-value-requires : tie.Need-value-requires Inv-loop μ-loop
-value-requires c κs = omega arith
+count-singly-requires : tie.Need-count-singly-requires
+count-singly-requires c κs = search needs
 
-add-c : tie.Need-add-c Inv-loop μ-loop
-add-c c = omega arith
+add-result : tie.Need-add-result
+add-result c = search needs
 
-add-i : tie.Need-add-i Inv-loop μ-loop
-add-i c = omega arith
-
-loop-less : tie.Need-loop-less Inv-loop μ-loop
-loop-less c = omega arith
-
--- what the value that was read does to the count
-abbrev turn : tie.After-value Inv-loop μ-loop → tie.Start Inv-loop μ-loop
-turn c = c .before .before .before .before
-
-loop-again : tie.Need-loop-again Inv-loop μ-loop
-loop-again c =
-    let v = c .before in
-    let a = turn v .args in
-    let value = valueIn (bytesFrom (a .file .now) (a .at)) in
-    let i = v .before .before .loop .i in (
-      omega arith,
-      ⊎-elim (λ w. omega (arith, assigned-counts (a .r) value (a .from) i (v .value .result) (v .value .ensures .0) (w .0 .taken))) (λ w. omega (arith, unassigned-counts-not (a .r) value (a .from) i (v .value .result) (v .value .ensures .0) (w .0 .left))) (c .if1 .came),
-      ⊎-elim (λ w. omega arith) (λ w. omega arith) (c .if1 .came),
-    )
-
-returns : tie.Need-returns Inv-loop μ-loop
+returns : tie.Need-returns
 returns c =
-    let a = c .before .before .before .args in
-    let e : c .before .loop .i ≡ a .k = omega arith in
-    (c .before .loop .inv .1 ∙ ap (λ i. count i (λ j. assigned (a .r) (valueIn (bytesFrom (a .file .now) (a .at)) (a .from + j)))) e, omega arith)
+    let l = c .before in
+    let a = l .before .before .args in
+    (count-in-two (a .file .now) (a .at) (a .r) (a .from) (4 * (a .k / 4)) (a .k) (l .count-fours .result) (c .count-singly .result) (omega arith) (l .count-fours .ensures .0) (c .count-singly .ensures .0), omega arith)
 
 pub count-assigned-spec : {M : Type 1} → statement M
-count-assigned-spec = tie.close (tie.spec Inv-loop μ-loop loop-holds add-value value-requires add-c add-i loop-less loop-again returns)
+count-assigned-spec =
+    tie.close
+    (tie.spec
+    mul-whole
+    count-fours-requires
+    add-count-singly
+    sub-count-singly
+    count-singly-requires
+    add-result
+    returns)

@@ -1,101 +1,91 @@
--- `records::vertices::name_vertices` meets its contract. The invariant: the first j vertices are noted, and s is the sum of their values. The measure is what is left of r. Assumes nothing.
-use mathlib.Core.Path.{_≡_, refl, sym, ap, _∙_}
-use Prim.Native.Nat.{_*_, _-_, _≤_, _<_}
+-- `records::vertices::name_vertices` meets its contract. Assumes nothing.
+use mathlib.Core.Path.{_∙_}
+use mathlib.Core.List.{List}
+use Prim.Native.Nat.{ℕ, _≤_, _<_}
 use native.Mathlib.Omega.{arith}
-use lib.ListN.{length, length-set}
+use lib.ListN.{length, set, length-set}
 use borrow.Author.Needs.{needs}
 use Rattle.counting.specs.Holds.{Holds}
 use Rattle.counting.specs.HoldsLaws.{holds-none, holds-more}
-use Rattle.records.specs.Standing.{valuesFrom}
-use Rattle.records.specs.StandingLaws.{part-most, weighed-in, vertex-in}
-use Rattle.records.specs.ReadingSteps.{vertexIn, valuesTo, values-none, values-next, values-all}
+use Rattle.directory.specs.Sizes.{mostVertices}
+use Rattle.directory.specs.Kind.{HD, vertex}
+use Rattle.records.specs.Standing.{weightOf}
+use Rattle.records.specs.StandingLaws.{part-most}
+use Rattle.records.specs.SummingLaws.{vertex-from}
 use Rattle.records.proofs.vertices.name_vertices.Statement.{statement}
 use Rattle.records.proofs.vertices.name_vertices.Tie as tie
 
-abbrev Inv-loop : tie.InvT-loop
-Inv-loop file r v code vertices₀ at s₀ j₀ vertices s j = (j ≤ r) × (length vertices ≡ length vertices₀) × Holds j (vertexIn file v code) vertices × (s ≡ valuesTo file r v code j) × (s ≤ 3 * j)
+code-sums-requires : tie.Need-code-sums-requires
+code-sums-requires c κs = let p = c .before .before .before .pre in record { two = p .0 .room .two; three = p .0 .room .three; long = omega (arith, p .0 .long); short = p .1 .0 }
 
-abbrev μ-loop : tie.MeasureT-loop
-μ-loop file r v code vertices₀ at s₀ j₀ vertices s j = r - j
+abbrev start : tie.After-code-sums → tie.Start
+start c = c .before .before .before .before
 
-values-at-requires : tie.Need-values-at-requires Inv-loop μ-loop
-values-at-requires c κs = search needs
+-- the part size is within the sizes
+part : (s : tie.Start) → (1 ≤ s .args .v) × (s .args .v ≤ mostVertices)
+part s = (s .pre .0 .room .some, part-most (s .args .r) (s .args .v) (s .pre .0 .room))
 
-loop-holds : tie.Need-loop-holds Inv-loop μ-loop
-loop-holds c = let a = c .before .before .before .before .args in (omega arith, refl, holds-none (vertexIn (a .file .now) (a .v) (a .code .now)) (a .vertices .now), sym (values-none (a .file .now) (a .r) (a .v) (a .code .now)), omega arith)
+vertex-requires : tie.Need-vertex-requires
+vertex-requires c κs = let p = part (start c) in (p .0, p .1, omega arith)
 
-abbrev start : tie.At-loop Inv-loop μ-loop → tie.Start Inv-loop μ-loop
-start c = c .before .before .before .before .before
+slice-write-vertices : tie.Need-slice-write-vertices
+slice-write-vertices c = omega (arith, start (c .before) .pre .0 .room .two)
 
--- the vertex that is noted
-below : (c : tie.After-vertex Inv-loop μ-loop) → let a = start (c .before .before) .args in c .vertex .result < a .r * a .v
-below c =
-    let s = start (c .before .before) in
-    let a = s .args in
-    rw (c .vertex .ensures) (vertex-in (a .r) (a .v) (a .file .now) (a .code .now) (c .before .before .loop .j) (s .pre .0) (c .before .loop-test .taken))
+vertex-requires-2 : tie.Need-vertex-requires-2
+vertex-requires-2 c κs = let p = part (start (c .before)) in (p .0, p .1, omega arith)
 
-vertex-requires : tie.Need-vertex-requires Inv-loop μ-loop
-vertex-requires c κs = let s = start (c .before) in let a = s .args in (weighed-in (a .r) (a .v) (a .file .now) (a .code .now) (c .before .loop .j) (s .pre .0) (s .pre .1 .0) (c .loop-test .taken), (omega arith, part-most (a .r) (a .v) (s .pre .0 .room)))
+-- the first vertex is noted
+one : (c : tie.After-vertex) → let a = start (c .before) .args in Holds 1 (vertex HD (a .v) (weightOf (a .file .now)) (a .code .now)) (set (a .vertices .now) 0 (c .vertex .result))
+one c = let s = start (c .before) in holds-more 0 _ (s .args .vertices .now) _ (holds-none _ (s .args .vertices .now)) (omega (arith, s .pre .0 .room .two)) (c .vertex .ensures ∙ vertex-from _ _ _ 0 _ (c .before .code-sums .ensures .first))
 
-mul-vertices : tie.Need-mul-vertices Inv-loop μ-loop
-mul-vertices c = omega arith
+slice-write-vertices-2 : tie.Need-slice-write-vertices-2
+slice-write-vertices-2 c = let s = start (c .before .before) in rw (length-set (s .args .vertices .now) _ _) (omega (arith, s .pre .0 .room .two))
 
-slice-write-vertices : tie.Need-slice-write-vertices Inv-loop μ-loop
-slice-write-vertices c = omega arith
+-- the array with the first two
+abbrev firstTwo : tie.After-vertex2 → List ℕ
+firstTwo c = set (set (start (c .before .before) .args .vertices .now) 0 (c .before .vertex .result)) 1 (c .vertex2 .result)
 
-value-requires : tie.Need-value-requires Inv-loop μ-loop
-value-requires c κs = omega (arith, below c)
+-- and the second
+two : (c : tie.After-vertex2) → let a = start (c .before .before) .args in Holds 2 (vertex HD (a .v) (weightOf (a .file .now)) (a .code .now)) (firstTwo c)
+two c = let s = start (c .before .before) in holds-more 1 _ (set (s .args .vertices .now) 0 (c .before .vertex .result)) _ (one (c .before)) (rw (length-set (s .args .vertices .now) _ _) (omega (arith, s .pre .0 .room .two))) (c .vertex2 .ensures ∙ vertex-from _ _ _ 1 _ (c .before .before .code-sums .ensures .second))
 
-add-s : tie.Need-add-s Inv-loop μ-loop
-add-s c = omega arith
+vertex-requires-3 : tie.Need-vertex-requires-3
+vertex-requires-3 c κs = let p = part (start (c .before .before .before)) in (p .0, p .1, omega arith)
 
-add-j : tie.Need-add-j Inv-loop μ-loop
-add-j c = omega arith
+-- the third has its place
+inside : (c : tie.After-vertex3) → 2 < length (firstTwo (c .before .before))
+inside c = let s = start (c .before .before .before .before) in rw (length-set (set (s .args .vertices .now) 0 _) _ _, length-set (s .args .vertices .now) _ _) (omega (arith, c .before .if1 .taken, s .pre .1 .1))
 
-loop-less : tie.Need-loop-less Inv-loop μ-loop
-loop-less c = omega arith
+slice-write-vertices-3 : tie.Need-slice-write-vertices-3
+slice-write-vertices-3 c = inside c
 
--- the values stand where they were read
-start-values : (c : tie.After-value Inv-loop μ-loop) → c .before .before .before .before .values-at .result ≡ valuesFrom (start (c .before .before .before) .args .r)
-start-values c = c .before .before .before .before .values-at .ensures
+same-length : tie.Need-same-length
+same-length c = search needs
 
-loop-again : tie.Need-loop-again Inv-loop μ-loop
-loop-again c =
-    let v = c .before in
-    let l = v .before .before in
-    let a = start l .args in (
-      omega arith,
-      length-set (l .loop .vertices) _ _ ∙ l .loop .inv .1,
-      holds-more (l .loop .j) _ (l .loop .vertices) _ (l .loop .inv .2) (omega arith) (v .vertex .ensures),
-      omega (arith, values-next (a .file .now) (a .r) (a .v) (a .code .now) (l .loop .j) (v .vertex .result) (c .value .result) (v .vertex .ensures) (rw (← start-values c) (c .value .ensures .0))),
-      omega (arith, c .value .ensures .1),
-    )
+returns : tie.Need-returns
+returns c i m =
+    let w = c .before .before in
+    let p = start (w .before .before) .pre .0 .room in
+    holds-more 2 _ (firstTwo w) _ (two w) (inside c) (c .vertex3 .ensures ∙ vertex-from _ _ _ 2 _ (w .before .before .code-sums .ensures .third (c .before .if1 .taken))) i (omega (arith, p .three))
 
-same-length : tie.Need-same-length Inv-loop μ-loop
-same-length c = c .before .loop .inv .1
+same-length-2 : tie.Need-same-length-2
+same-length-2 c = search needs
 
-returns : tie.Need-returns Inv-loop μ-loop
-returns c =
-    let l = c .before in
-    let a = start l .args in
-    let e : l .loop .j ≡ a .r = omega arith in
-    (λ i m. l .loop .inv .2 i (omega arith), l .loop .inv .3 ∙ ap (valuesTo (a .file .now) (a .r) (a .v) (a .code .now)) e ∙ values-all (a .file .now) (a .r) (a .v) (a .code .now))
+returns-2 : tie.Need-returns-2
+returns-2 c i m = two (c .before) i (omega (arith, c .if1 .left))
 
 pub name-vertices-spec : {M : Type 1} → statement M
 name-vertices-spec =
     tie.close
     (tie.spec
-    Inv-loop
-    μ-loop
-    values-at-requires
-    loop-holds
+    code-sums-requires
     vertex-requires
-    mul-vertices
     slice-write-vertices
-    value-requires
-    add-s
-    add-j
-    loop-less
-    loop-again
+    vertex-requires-2
+    slice-write-vertices-2
+    vertex-requires-3
+    slice-write-vertices-3
     same-length
-    returns)
+    returns
+    same-length-2
+    returns-2)

@@ -1,0 +1,71 @@
+-- What a caller in C knows: the fields tell the answer, and each call decides what it gives back. Assumes nothing.
+use mathlib.Core.Path.{_≡_, refl, sym, _∙_}
+use mathlib.Core.Logic.{_↔_}
+use mathlib.Core.List.{List}
+use Prim.Native.Nat.{ℕ, _≤_}
+use native.Mathlib.Omega.{arith}
+use Rattle.directory.specs.declared.Built.{Built}
+use Rattle.directory.specs.declared.Built.the-variants as built
+use Rattle.directory.specs.declared.Opening.{Opening}
+use Rattle.directory.specs.declared.Opening.the-variants as opening
+use Rattle.directory.specs.declared.Found.{Found}
+use Rattle.directory.specs.declared.Found.the-variants as looked
+use Rattle.directory.specs.Building.{Lent}
+use Rattle.directory.specs.Answers.{builtNumbers, openingNumbers, foundNumbers}
+use Rattle.directory.specs.Calls.{buildOf, buildNumbersOf, bufferAfterOf, openOf, openNumbersOf, lookupOf, lookupNumbersOf, showPartOf}
+use Rattle.directory.specs.Demands.{the-numbers-of-building, building-refuses-with-1-to-8}
+use Rattle.directory.specs.EveryFile.{the-numbers-of-opening, the-numbers-of-looking-up, opening-refuses-with-9-to-15}
+use Rattle.dronesickle.specs.declared.DsAnswer.{DsAnswer}
+use Rattle.dronesickle.specs.declared.DsOpened.{DsOpened}
+use Rattle.dronesickle.specs.declared.DsFound.{DsFound}
+use Rattle.dronesickle.specs.declared.DsPart.{DsPart}
+use Rattle.dronesickle.specs.Numbers.{answer, opened, found, part}
+
+-- ---- the fields tell the answer
+
+tells-built : (b : Built) → ((k p : ℕ) → b ≡ built.Refused k p → 1 ≤ k) → (answer (builtNumbers b) .number ≡ 0) ↔ (b ≡ built.Done)
+tells-built built.Done some = (λ e. refl, λ e. refl)
+tells-built (built.Refused k p) some = (λ e. absurd (omega (arith, some k p refl)), λ e. cc)
+
+-- the number of a build is 0 exactly if it succeeded
+pub number-is-0-exactly-if-it-is-built : (I : Lent) → (answer (buildNumbersOf I) .number ≡ 0) ↔ (buildOf I ≡ built.Done)
+number-is-0-exactly-if-it-is-built I = rw (← the-numbers-of-building I) (tells-built (buildOf I) (λ k p e. building-refuses-with-1-to-8 I k p e .0))
+
+tells-opened : (o : Opening) → ((k p : ℕ) → o ≡ opening.Refused k p → 1 ≤ k) → let c = opened (openingNumbers o) in (c .number ≡ 0) ↔ (o ≡ opening.Opened (c .n) (c .r) (c .v))
+tells-opened (opening.Opened n r v) some = (λ e. refl, λ e. refl)
+tells-opened (opening.Refused k p) some = (λ e. absurd (omega (arith, some k p refl)), λ e. cc)
+
+-- the number of an opening is 0 exactly if the file opens, with the n, r and v beside it
+pub number-is-0-exactly-if-it-opens : (f : List ℕ) → let c = opened (openNumbersOf f) in (c .number ≡ 0) ↔ (openOf f ≡ opening.Opened (c .n) (c .r) (c .v))
+number-is-0-exactly-if-it-opens f = rw (← the-numbers-of-opening f) (tells-opened (openOf f) (λ k p e. omega (arith, opening-refuses-with-9-to-15 f k p e .0)))
+
+tells-at : (o : Found) → let c = found (foundNumbers o) in (c .kind ≡ 0) ↔ (o ≡ looked.At (c .line))
+tells-at (looked.At l) = (λ e. refl, λ e. refl)
+tells-at looked.Unknown = (λ e. absurd (omega arith), λ e. cc)
+tells-at (looked.Refused k p) = (λ e. absurd (omega arith), λ e. cc)
+
+tells-unknown : (o : Found) → (found (foundNumbers o) .kind ≡ 1) ↔ (o ≡ looked.Unknown)
+tells-unknown (looked.At l) = (λ e. absurd (omega arith), λ e. cc)
+tells-unknown looked.Unknown = (λ e. refl, λ e. refl)
+tells-unknown (looked.Refused k p) = (λ e. absurd (omega arith), λ e. cc)
+
+-- the kind of a lookup is 0 exactly if the code has a line, the one beside it, and 1 exactly if it is unknown
+pub kind-is-0-exactly-at-a-line : (f t : List ℕ) → let c = found (lookupNumbersOf f t) in (c .kind ≡ 0) ↔ (lookupOf f t ≡ looked.At (c .line))
+kind-is-0-exactly-at-a-line f t = rw (← the-numbers-of-looking-up f t) (tells-at (lookupOf f t))
+
+pub kind-is-1-exactly-if-unknown : (f t : List ℕ) → (found (lookupNumbersOf f t) .kind ≡ 1) ↔ (lookupOf f t ≡ looked.Unknown)
+kind-is-1-exactly-if-unknown f t = rw (← the-numbers-of-looking-up f t) (tells-unknown (lookupOf f t))
+
+-- ---- any two results that the contract of a call allows are equal
+
+pub building-is-decided : (I : Lent) {a b : DsAnswer} {x y : List ℕ} → (a ≡ answer (buildNumbersOf I)) × (x ≡ bufferAfterOf I) → (b ≡ answer (buildNumbersOf I)) × (y ≡ bufferAfterOf I) → (a ≡ b) × (x ≡ y)
+building-is-decided I a b = (a .0 ∙ sym (b .0), a .1 ∙ sym (b .1))
+
+pub opening-is-decided : (f : List ℕ) {o p : DsOpened} → o ≡ opened (openNumbersOf f) → p ≡ opened (openNumbersOf f) → o ≡ p
+opening-is-decided f a b = a ∙ sym b
+
+pub looking-up-is-decided : (f t : List ℕ) {o p : DsFound} → o ≡ found (lookupNumbersOf f t) → p ≡ found (lookupNumbersOf f t) → o ≡ p
+looking-up-is-decided f t a b = a ∙ sym b
+
+pub showing-is-decided : (f : List ℕ) (l : ℕ) {p q : DsPart} → p ≡ part (showPartOf f l) → q ≡ part (showPartOf f l) → p ≡ q
+showing-is-decided f l a b = a ∙ sym b

@@ -1,0 +1,19 @@
+-- The answers as C has them: each of the paper's numbers under its name. Assumes nothing.
+use Prim.Native.Nat.{ℕ}
+use Rattle.directory.specs.declared.Part.{Part}
+use Rattle.dronesickle.specs.declared.DsAnswer.{DsAnswer}
+use Rattle.dronesickle.specs.declared.DsOpened.{DsOpened}
+use Rattle.dronesickle.specs.declared.DsFound.{DsFound}
+use Rattle.dronesickle.specs.declared.DsPart.{DsPart}
+
+abbrev pub answer : ℕ × ℕ → DsAnswer
+answer (number, place) = record { number = number; place = place }
+
+abbrev pub opened : ℕ × ℕ × ℕ × ℕ × ℕ → DsOpened
+opened (number, place, n, r, v) = record { number = number; place = place; n = n; r = r; v = v }
+
+abbrev pub found : ℕ × ℕ × ℕ × ℕ → DsFound
+found (kind, number, place, line) = record { kind = kind; number = number; place = place; line = line }
+
+abbrev pub part : Part → DsPart
+part p = record { start = p .start; length = p .size }
