@@ -2,8 +2,6 @@
 use beginnings::first_bytes;
 use storing::put_bytes;
 use telling::say;
-ghost use Prim.Native.Nat.{_+_, _≤_};
-ghost use lib.ListN.{length};
 
 // The most bytes of a name, and with what is added to it.
 const LONGEST_NAME: usize = 4_096;

@@ -1,5 +1,5 @@
 -- A word read digit by digit: what is known once it turns out wrong, and once it has been read. Assumes nothing.
-use mathlib.Core.Path.{_≡_, refl, sym, ap, _∙_}
+use mathlib.Core.Path.{_≡_, refl, ap, _∙_}
 use mathlib.Core.Logic.{_≢_}
 use mathlib.Core.Bool.{Bool, true, false, not, _||_}
 use mathlib.Core.List.{List}
@@ -14,7 +14,7 @@ use Rattle.counting.specs.TestLaws.{and-left, or-second, or-none}
 use Rattle.counting.specs.Below.{any}
 use Rattle.counting.specs.SearchLaws.{any-has, any-none}
 use Rattle.texts.specs.declared.Number.the-variants.{Is, Wrong}
-use Rattle.texts.specs.Numbers.{isDigit, valueOfFirst, valueOf, mostNumber, wrongNumber, numberOf}
+use Rattle.texts.specs.Numbers.{zeroSign, isDigit, valueOfFirst, valueOf, mostNumber, wrongNumber, numberOf}
 
 -- ---- the value
 
@@ -22,7 +22,7 @@ pub value-none : (w : List ℕ) → 0 ≡ valueOfFirst w 0
 unfolding valueOfFirst
 value-none w = refl
 
-pub value-next : (w : List ℕ) (i x y : ℕ) → x ≡ valueOfFirst w i → y ≡ 10 * x + (getD w i 0 - 48) → y ≡ valueOfFirst w (i + 1)
+pub value-next : (w : List ℕ) (i x y : ℕ) → x ≡ valueOfFirst w i → y ≡ 10 * x + (getD w i 0 - zeroSign) → y ≡ valueOfFirst w (i + 1)
 unfolding valueOfFirst
 value-next w i x y e f = rw (add-one i, ← e) f
 
@@ -31,8 +31,8 @@ unfolding valueOfFirst
 value-grows w i zero = rw (add-zero i) (omega arith)
 value-grows w i (suc j) = rw (add-suc i j) (omega (arith, value-grows w i j))
 
-pub digit-least : (b : ℕ) → isDigit b ≡ true → 48 ≤ b
-digit-least b t = leb-true 48 b (and-left _ _ t)
+pub digit-least : (b : ℕ) → isDigit b ≡ true → zeroSign ≤ b
+digit-least b t = leb-true zeroSign b (and-left _ _ t)
 
 -- ---- the answer
 

@@ -12,14 +12,18 @@ use Rattle.texts.specs.declared.Number.the-variants.{Is, Wrong}
 abbrev pub between : ℕ → ℕ → ℕ → Bool
 between low high b = leb low b && leb b high
 
+-- the character 0
+abbrev pub zeroSign : ℕ
+zeroSign = 0x30
+
 -- 0 to 9
 abbrev pub isDigit : ℕ → Bool
-isDigit b = between 0x30 0x39 b
+isDigit b = between zeroSign 0x39 b
 
 -- the number that the first i digits of a word stand for
 unfoldable pub valueOfFirst : List ℕ → ℕ → ℕ
 valueOfFirst w zero = 0
-valueOfFirst w (suc i) = 10 * valueOfFirst w i + (getD w i 0 - 0x30)
+valueOfFirst w (suc i) = 10 * valueOfFirst w i + (getD w i 0 - zeroSign)
 
 abbrev pub valueOf : List ℕ → ℕ
 valueOf w = valueOfFirst w (length w)

@@ -7,7 +7,7 @@ use native.Mathlib.Omega.{arith}
 use borrow.Author.Count.{below-more}
 use Rattle.counting.specs.TestLaws.{lt?, clash}
 use Rattle.counting.specs.Below.{lowest}
-use Rattle.counting.specs.SearchLaws.{Lowest, lowest-is, lowest-only}
+use Rattle.counting.specs.SearchLaws.{lowest-is, lowest-only}
 
 -- the first k are there and right
 pub record Passed (missing wrong : ℕ → Bool) (k : ℕ) : Type 0 where

@@ -1,5 +1,5 @@
 -- What is read of a text of codes and of a text of weights: the answer, and the numbers stored. Assumes nothing.
-use mathlib.Core.Bool.{Bool, cond}
+use mathlib.Core.Bool.{cond}
 use mathlib.Core.List.{List, [], _∷_}
 use Prim.Native.Nat.{ℕ, suc, _*_}
 use lib.Dec.{ltb}
@@ -37,6 +37,7 @@ runTo text k = each k (λ i. kept (line text i))
 unfoldable pub endsTo : List ℕ → ℕ → List ℕ
 endsTo text k = each k (λ i. length (runTo text (suc i)) ∷ [])
 
+-- the same up to the first wrong line
 abbrev pub runOf : List ℕ → List ℕ
 runOf text = runTo text (linesRight text)
 
@@ -57,15 +58,19 @@ mostRun = mostKept * mostLines
 abbrev pub mostWords : ℕ
 mostWords = 97
 
+-- how many of the first 97 words there are
 unfoldable pub wordsRead : List ℕ → ℕ
 wordsRead text = lowest mostWords (noWord text)
 
+-- the first of them that is no number, or how many there are where all are
 unfoldable pub wordsRight : List ℕ → ℕ
 wordsRight text = lowest (wordsRead text) (λ k. wrongNumber (word text k))
 
+-- the numbers of the first k words
 unfoldable pub valuesTo : List ℕ → ℕ → List ℕ
 valuesTo text k = each k (λ i. valueOf (word text i) ∷ [])
 
+-- the same up to the first that is no number
 abbrev pub valuesOf : List ℕ → List ℕ
 valuesOf text = valuesTo text (wordsRight text)
 

@@ -1,6 +1,6 @@
 -- The weights of a text, word after word: one turn of the loop, and the answer. Assumes nothing.
-use mathlib.Core.Path.{_≡_, ap, _∙_}
-use mathlib.Core.Bool.{true, false}
+use mathlib.Core.Path.{_≡_, ap}
+use mathlib.Core.Bool.{true}
 use mathlib.Core.List.{List, [], _∷_}
 use Prim.Native.Nat.{ℕ, _+_, _≤_, _<_}
 use native.Mathlib.Omega.{arith}
@@ -14,7 +14,7 @@ use Rattle.texts.specs.declared.Number.the-variants as number
 use Rattle.texts.specs.Parts.{since, Left}
 use Rattle.texts.specs.Words.{isBlank, notBlank, fromWord, noWord, word}
 use Rattle.texts.specs.WordSteps.{word-next, word-there}
-use Rattle.texts.specs.Numbers.{valueOf, wrongNumber, numberOf}
+use Rattle.texts.specs.Numbers.{wrongNumber, numberOf}
 use Rattle.texts.specs.NumberSteps.{number-is, number-wrong}
 use Rattle.texts.specs.Reading.{mostWords, wordsRead, wordsRight, valuesTo, valuesOf, weightsOf}
 use Rattle.texts.specs.PassedLaws.{Passed, passed-none, passed-more, passed-all, passed-wrong}

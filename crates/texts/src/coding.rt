@@ -17,6 +17,7 @@ pub const MOST_KEPT: usize = 33;
 // The length of `0x`.
 const SIGN: usize = 2;
 
+// Whether a line starts with `0x`.
 fn in_hex(line: &[u8]) -> bool
     ensures { λ yes. ⌜ yes ≡ inHex (now (line .entry)) ⌝ }
 {
@@ -37,6 +38,7 @@ fn hex_digits(line: &[u8]) -> &[u8]
     &line[SIGN..]
 }
 
+// Whether it does, and other than pairs of hex digits follow.
 pub(crate) fn wrong_line(line: &[u8]) -> bool
     ensures { λ yes. ⌜ yes ≡ wrongLine (now (line .entry)) ⌝ }
 {

@@ -2,8 +2,7 @@
 use crate::Number;
 ghost use mathlib.Core.Path.{_≡_};
 ghost use Prim.Native.Nat.{_+_, _-_, _*_, _≤_};
-ghost use lib.ListN.{length};
-ghost use Rattle.texts.specs.Numbers.{isDigit, mostNumber, numberOf};
+ghost use Rattle.texts.specs.Numbers.{zeroSign, isDigit, mostNumber, numberOf};
 
 const MOST_NUMBER: usize = 65_535;
 
@@ -18,8 +17,8 @@ fn is_digit(b: u8) -> bool
 
 // A number with one more digit.
 fn with_digit(x: usize, b: u8) -> usize
-    requires { ⌜ (x ≤ mostNumber) × (48 ≤ b) ⌝ }
-    ensures { λ y. ⌜ y ≡ 10 * x + (b - 48) ⌝ }
+    requires { ⌜ (x ≤ mostNumber) × (zeroSign ≤ b) ⌝ }
+    ensures { λ y. ⌜ y ≡ 10 * x + (b - zeroSign) ⌝ }
 {
     10 * x + (b - b'0') as usize
 }

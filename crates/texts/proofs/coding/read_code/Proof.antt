@@ -1,6 +1,5 @@
 -- `texts::coding::read_code` meets its contract. Assumes nothing.
 use mathlib.Core.Path.{sym, _∙_}
-use native.Mathlib.Omega.{arith}
 use borrow.Author.Needs.{needs}
 use Rattle.texts.specs.CodeLaws.{code-wrong, code-taken}
 use Rattle.texts.proofs.coding.read_code.Statement.{statement}

@@ -1,5 +1,5 @@
 -- `texts::numbers::read_number` meets its contract. The invariant: the first i characters are digits, and x is their number. The measure is what is left of the word. Assumes nothing.
-use mathlib.Core.Path.{_≡_, sym, ap, _∙_}
+use mathlib.Core.Path.{_≡_, sym, _∙_}
 use mathlib.Core.Bool.{true, false, not}
 use Prim.Native.Nat.{ℕ, _+_, _-_, _≤_, _<_}
 use native.Mathlib.Omega.{arith}
