@@ -1,0 +1,42 @@
+// Codes, weights and numbers out of text. What a text holds is laid down in specs/.
+mod finding; // finding.rt: where lines and words begin and end
+mod lines; // lines.rt: the lines of a text
+mod words; // words.rt: the words of a text
+mod numbers; // numbers.rt: a number
+mod hex; // hex.rt: hex digits, and the bytes of pairs of them
+mod coding; // coding.rt: the code of a line
+mod reading; // reading.rt: all codes of a text, and all weights of one
+
+pub use coding::MOST_KEPT;
+pub use coding::read_code;
+pub use lines::line;
+pub use numbers::read_number;
+pub use reading::MOST_LINES;
+pub use reading::MOST_WORDS;
+pub use reading::read_codes;
+pub use reading::read_weights;
+pub use words::word;
+
+// A number from 0 to 65,535, or a word that is none.
+pub enum Number {
+    Is(u16),
+    Wrong,
+}
+
+// How many bytes are kept of the code of a line, or that the line is wrong.
+pub enum Code {
+    Taken(usize),
+    Wrong,
+}
+
+// How many codes a text has and how many bytes are kept of them in all, or its first line that is wrong.
+pub enum Codes {
+    Read(usize, usize),
+    Wrong(usize),
+}
+
+// How many weights a text has, or its first word that is no number.
+pub enum Weights {
+    Read(usize),
+    Wrong(usize),
+}
