@@ -48,6 +48,12 @@ pub fn tell_wrong_word(weights: &[u8], k: usize) {
     say(b" is not a number from 0 to 65535\n");
 }
 
+fn say_count(count: usize) {
+    say(b" has ");
+    say_number(count);
+    say(b" numbers");
+}
+
 // How many numbers the weights' file has; of more than are read, that there are more than the most weights.
 fn say_weights(weights: &[u8]) {
     let mut numbers = [0u16; MOST_WORDS];
@@ -55,12 +61,10 @@ fn say_weights(weights: &[u8]) {
         return;
     };
     say_argument(WEIGHTS);
-    if count < MOST_WORDS {
-        say(b" has ");
-        say_number(count);
-        say(b" numbers");
-    } else {
-        say(b" has more than 96 numbers");
+    match count {
+        1 => say(b" has 1 number"),
+        MOST_WORDS => say(b" has more than 96 numbers"),
+        _ => say_count(count),
     }
 }
 
