@@ -6,6 +6,9 @@ use Rattle.records.specs.Standing.{mostBytes}
 use Rattle.lists.proofs.edges.weight.Statement.{statement}
 use Rattle.lists.proofs.edges.weight.Tie as tie
 
+returns : tie.Need-returns
+returns c = let a = c .before .args in (refl, omega (arith, c .shared-slice-known .given (mostBytes * a .j + a .i)))
+
 mul-result : tie.Need-mul-result
 mul-result c = omega arith
 
@@ -20,9 +23,6 @@ shared-slice-read-result c = omega arith
 
 cast-result : tie.Need-cast-result
 cast-result c = let a = c .before .args in omega (arith, c .shared-slice-known .given (mostBytes * a .j + a .i))
-
-returns : tie.Need-returns
-returns c = let a = c .before .args in (refl, omega (arith, c .shared-slice-known .given (mostBytes * a .j + a .i)))
 
 pub weight-spec : {M : Type 1} → statement M
 weight-spec =
