@@ -19,7 +19,7 @@ use Rattle.texts.specs.Lines.{fromLine, noLine, withoutReturn, line}
 use Rattle.texts.specs.Words.{fromWord, noWord, word}
 use Rattle.texts.specs.Numbers.{valueOfFirst, wrongNumber, numberOf}
 use Rattle.texts.specs.Codes.{hexValue, wrongPairs, pairByte, firstPairs, inHex, wrongLine, codeOf, kept}
-use Rattle.texts.specs.Reading.{linesRead, linesRight, runTo, endsTo, runOf, endsOf, codesOf, wordsRead, wordsRight, valuesTo, valuesOf, weightsOf}
+use Rattle.texts.specs.Reading.{linesRead, linesRight, runTo, endsTo, runOf, endsOf, codesOf, mostWeight, wordsRead, wordsRight, valuesTo, valuesOf, weightsOf}
 
 -- ---- answers as numbers: first whether it is wrong
 
@@ -88,9 +88,9 @@ readSays =
     ∷ same (valuesOf four) (1 ∷ 20 ∷ 65535 ∷ 7 ∷ [])
     ∷ same (weightsSay (weightsOf (four ++ large))) (1 ∷ 4 ∷ [])
     ∷ same (weightsSay (weightsOf [])) (0 ∷ 0 ∷ [])
-    ∷ same (numberSays (numberOf negative)) (1 ∷ [])
-    ∷ same (numberSays (numberOf [])) (1 ∷ [])
-    ∷ same (numberSays (numberOf (0x30 ∷ []))) (0 ∷ 0 ∷ [])
+    ∷ same (numberSays (numberOf mostWeight negative)) (1 ∷ [])
+    ∷ same (numberSays (numberOf mostWeight [])) (1 ∷ [])
+    ∷ same (numberSays (numberOf mostWeight (0x30 ∷ []))) (0 ∷ 0 ∷ [])
     ∷ []
 
 pub a-few-texts : every (λ b. b) (lineSays ++ readSays) ≡ true

@@ -1,4 +1,4 @@
--- Decimal numbers 0 to 65,535 in text. Assumes nothing.
+-- Decimal numbers in text, from 0 to the largest that is allowed. Assumes nothing.
 use mathlib.Core.Bool.{Bool, not, _&&_, _||_, cond}
 use mathlib.Core.List.{List}
 use Prim.Native.Nat.{ℕ, zero, suc, _+_, _-_, _*_}
@@ -28,12 +28,9 @@ valueOfFirst w (suc i) = 10 * valueOfFirst w i + (getD w i 0 - zeroSign)
 abbrev pub valueOf : List ℕ → ℕ
 valueOf w = valueOfFirst w (length w)
 
-abbrev pub mostNumber : ℕ
-mostNumber = 65535
+-- a word that is no number of at most `most`: without a digit, with another character, or too large
+unfoldable pub wrongNumber : ℕ → List ℕ → Bool
+wrongNumber most w = eqb (length w) 0 || any (length w) (λ i. not (isDigit (getD w i 0))) || ltb most (valueOf w)
 
--- a word that is no such number: without a digit, with another character, or too large
-unfoldable pub wrongNumber : List ℕ → Bool
-wrongNumber w = eqb (length w) 0 || any (length w) (λ i. not (isDigit (getD w i 0))) || ltb mostNumber (valueOf w)
-
-unfoldable pub numberOf : List ℕ → Number
-numberOf w = cond (wrongNumber w) Wrong (Is (valueOf w))
+unfoldable pub numberOf : ℕ → List ℕ → Number
+numberOf most w = cond (wrongNumber most w) Wrong (Is (valueOf w))

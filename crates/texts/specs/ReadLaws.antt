@@ -20,7 +20,7 @@ use Rattle.texts.specs.Words.{noWord, word}
 use Rattle.texts.specs.Numbers.{valueOf, wrongNumber}
 use Rattle.texts.specs.Codes.{mostKept, kept, wrongLine}
 use Rattle.texts.specs.CodeLaws.{kept-most}
-use Rattle.texts.specs.Reading.{mostLines, mostRun, linesRead, linesRight, runTo, runOf, endsOf, codesOf, mostWords, wordsRead, wordsRight, valuesTo, valuesOf, weightsOf}
+use Rattle.texts.specs.Reading.{mostLines, mostRun, linesRead, linesRight, runTo, runOf, endsOf, codesOf, mostWords, mostWeight, wordsRead, wordsRight, valuesTo, valuesOf, weightsOf}
 use Rattle.texts.specs.ListLaws.{ends-many}
 
 -- what was written at the start stands there
@@ -45,7 +45,7 @@ module _ (text : List ℕ) where
 
   words-fewer : wordsRight text ≤ wordsRead text
   unfolding wordsRight
-  words-fewer = lowest-is (wordsRead text) (λ k. wrongNumber (word text k)) .most
+  words-fewer = lowest-is (wordsRead text) (λ k. wrongNumber mostWeight (word text k)) .most
 
   words-most : wordsRight text ≤ mostWords
   unfolding wordsRead

@@ -58,13 +58,16 @@ mostRun = mostKept * mostLines
 abbrev pub mostWords : ℕ
 mostWords = 97
 
+abbrev pub mostWeight : ℕ
+mostWeight = 65535
+
 -- how many of the first 97 words there are
 unfoldable pub wordsRead : List ℕ → ℕ
 wordsRead text = lowest mostWords (noWord text)
 
 -- the first of them that is no number, or how many there are where all are
 unfoldable pub wordsRight : List ℕ → ℕ
-wordsRight text = lowest (wordsRead text) (λ k. wrongNumber (word text k))
+wordsRight text = lowest (wordsRead text) (λ k. wrongNumber mostWeight (word text k))
 
 -- the numbers of the first k words
 unfoldable pub valuesTo : List ℕ → ℕ → List ℕ

@@ -16,13 +16,13 @@ use Rattle.texts.specs.Words.{isBlank, notBlank, fromWord, noWord, word}
 use Rattle.texts.specs.WordSteps.{word-next, word-there}
 use Rattle.texts.specs.Numbers.{wrongNumber, numberOf}
 use Rattle.texts.specs.NumberSteps.{number-is, number-wrong}
-use Rattle.texts.specs.Reading.{mostWords, wordsRead, wordsRight, valuesTo, valuesOf, weightsOf}
+use Rattle.texts.specs.Reading.{mostWords, mostWeight, wordsRead, wordsRight, valuesTo, valuesOf, weightsOf}
 use Rattle.texts.specs.PassedLaws.{Passed, passed-none, passed-more, passed-all, passed-wrong}
 
 -- k words are read, and word k begins at `at`
 pub record WeightsTo (text weights₀ weights : List ℕ) (at k : ℕ) : Type 0 where
   pub stored : Wrote 0 (valuesTo text k) weights₀ weights k
-  pub passed : Passed (noWord text) (λ i. wrongNumber (word text i)) k
+  pub passed : Passed (noWord text) (λ i. wrongNumber mostWeight (word text i)) k
   pub left : Left text at (fromWord text k)
 
 pub weights-none : (text weights : List ℕ) (at : ℕ) → Left text at (fromWord text 0) → WeightsTo text weights weights at 0
@@ -36,10 +36,10 @@ WeightsRead text weights₀ weights answer = (answer ≡ weightsOf text) × Wrot
 module _ {text weights₀ weights : List ℕ} {at k : ℕ} (s : WeightsTo text weights₀ weights at k) where
   -- ---- one word more
 
-  pub weights-more : (x next : ℕ) → at < length text → number.Is x ≡ numberOf (word text k) → Left text next (since notBlank (since isBlank (drop at text))) → WeightsTo text weights₀ (set weights k x) next (k + 1)
+  pub weights-more : (x next : ℕ) → at < length text → number.Is x ≡ numberOf mostWeight (word text k) → Left text next (since notBlank (since isBlank (drop at text))) → WeightsTo text weights₀ (set weights k x) next (k + 1)
   unfolding valuesTo
   weights-more x next there is n =
-      let r = number-is (word text k) x is in
+      let r = number-is mostWeight (word text k) x is in
       record {
         stored = wrote-each-next k _ (s .stored) (wrote-named (ap (λ v. v ∷ []) (r .1)) (wrote-one k x weights));
         passed = passed-more k (s .passed) (word-there k (s .left) there) (r .0);
@@ -57,8 +57,8 @@ module _ {text weights₀ weights : List ℕ} {at k : ℕ} (s : WeightsTo text w
       let p = passed-all mostWords k (s .passed) few last in
       (rw (le-ltb (wordsRight text) (wordsRead text) (omega (arith, p .0, p .1))) (ap Read (p .0)), written (p .1))
 
-  pub weights-wrong : k < mostWords → at < length text → number.Wrong ≡ numberOf (word text k) → WeightsRead text weights₀ weights (Wrong k)
+  pub weights-wrong : k < mostWords → at < length text → number.Wrong ≡ numberOf mostWeight (word text k) → WeightsRead text weights₀ weights (Wrong k)
   unfolding weightsOf wordsRead wordsRight
   weights-wrong few there wrong =
-      let p = passed-wrong mostWords k (s .passed) (omega arith) few (word-there k (s .left) there) (number-wrong (word text k) wrong) in
+      let p = passed-wrong mostWords k (s .passed) (omega arith) few (word-there k (s .left) there) (number-wrong mostWeight (word text k) wrong) in
       (rw (lt-ltb (wordsRight text) (wordsRead text) (omega (arith, p .0, p .1))) (ap Wrong (p .1)), written (p .1))

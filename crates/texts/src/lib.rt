@@ -17,9 +17,9 @@ pub use reading::read_codes;
 pub use reading::read_weights;
 pub use words::word;
 
-// A number from 0 to 65,535, or a word that is none.
+// A number from 0 to the largest that is allowed, or a word that is none.
 pub enum Number {
-    Is(u16),
+    Is(u32),
     Wrong,
 }
 

@@ -21,6 +21,8 @@ pub const MOST_LINES: usize = 1_025;
 
 pub const MOST_WORDS: usize = 97;
 
+pub const MOST_WEIGHT: u32 = 65_535;
+
 // The codes of a text, one a line: their bytes go to the start of the run and their ends to the start of the ends, up to the first line that is wrong.
 pub fn read_codes(text: &[u8], run: &mut [u8], ends: &mut [u16]) -> Codes
     requires { ⌜ (mostRun ≤ length (now run)) × (mostLines ≤ length (now ends)) ⌝ }
@@ -59,10 +61,10 @@ pub fn read_weights(text: &[u8], weights: &mut [u16]) -> Weights
         if text.len() <= at {
             return Weights::Read(k);
         }
-        let Number::Is(x) = read_number(word_at(text, at)) else {
+        let Number::Is(x) = read_number(word_at(text, at), MOST_WEIGHT) else {
             return Weights::Wrong(k);
         };
-        weights[k] = x;
+        weights[k] = x as u16;
         at = next_word(text, at);
         k += 1;
     }

@@ -6,7 +6,8 @@ use borrow.Author.Needs.{needs}
 use Rattle.texts.specs.Words.{word}
 use Rattle.texts.specs.WordSteps.{word-here, word-none}
 use Rattle.texts.specs.Numbers.{numberOf}
-use Rattle.texts.specs.Reading.{mostWords}
+use Rattle.texts.specs.NumberSteps.{number-most}
+use Rattle.texts.specs.Reading.{mostWords, mostWeight}
 use Rattle.texts.specs.WeightsSteps.{WeightsTo, weights-none, weights-more, weights-all, weights-wrong}
 use Rattle.texts.proofs.reading.read_weights.Statement.{statement}
 use Rattle.texts.proofs.reading.read_weights.Tie as tie
@@ -48,14 +49,18 @@ same-length-2 : tie.Need-same-length-2 Inv-loop μ-loop
 same-length-2 c = search needs
 
 -- what was read is the number of word k
-here : (c : tie.After-read-number Inv-loop μ-loop) → let l = c .before .before .before .before in c .read-number .result ≡ numberOf (word (start l .args .text .now) (l .loop .k))
-here c = let w = c .before in c .read-number .ensures ∙ ap numberOf (w .word-at .ensures ∙ word-here _ (w .before .before .before .loop .inv .0 .left))
+here : (c : tie.After-read-number Inv-loop μ-loop) → let l = c .before .before .before .before in c .read-number .result ≡ numberOf mostWeight (word (start l .args .text .now) (l .loop .k))
+here c = let w = c .before in c .read-number .ensures ∙ ap (numberOf mostWeight) (w .word-at .ensures ∙ word-here _ (w .before .before .before .loop .inv .0 .left))
 
 returns-2 : tie.Need-returns-2 Inv-loop μ-loop
 returns-2 c =
     let r = c .before .before in
     let w = r .before in
     weights-wrong (w .before .before .before .loop .inv .0) (w .before .before .loop-test .taken) (w .before .if1 .left) (sym (c .enum-told .given .1) ∙ here r)
+
+-- a weight has two bytes
+cast-weights : tie.Need-cast-weights Inv-loop μ-loop
+cast-weights c = let x = c .before in omega (arith, number-most mostWeight _ _ (sym (x .x .given .1) ∙ here (x .before .before)))
 
 mul-weights : tie.Need-mul-weights Inv-loop μ-loop
 mul-weights c = search needs
@@ -101,6 +106,7 @@ read-weights-spec =
     enum-told
     same-length-2
     returns-2
+    cast-weights
     mul-weights
     slice-write-weights
     next-word-requires
