@@ -3,7 +3,9 @@ pub mod Parts
 pub mod Lines
 pub mod Words
 pub mod Numbers
+pub mod Levels
 pub mod Codes
+pub mod Reports
 pub mod Reading
 pub mod ListLaws
 pub mod Stops
@@ -11,8 +13,10 @@ pub mod PartsLaws
 pub mod LineSteps
 pub mod WordSteps
 pub mod NumberSteps
+pub mod LevelLaws
 pub mod HexLaws
 pub mod CodeLaws
+pub mod ReportLaws
 pub mod PassedLaws
 pub mod CodesSteps
 pub mod WeightsSteps

@@ -5,7 +5,7 @@ ghost use mathlib.Core.Path.{_≡_};
 ghost use Prim.Native.Nat.{_≤_};
 ghost use lib.ListN.{length, drop};
 ghost use Rattle.texts.specs.Parts.{before, since, Left};
-ghost use Rattle.texts.specs.Words.{isBlank, notBlank, fromWord, word as wordOf};
+ghost use Rattle.texts.specs.Words.{isBlank, notBlank, fromWord, noWord, word as wordOf};
 
 // The word that begins at a place.
 pub(crate) fn word_at(text: &[u8], at: usize) -> &[u8]
@@ -43,6 +43,16 @@ fn word_start(text: &[u8], k: usize) -> usize
         i += 1;
     }
     at
+}
+
+// Whether there is no word k.
+pub(crate) fn no_word(text: &[u8], k: usize) -> bool
+    ensures { λ yes. ⌜ yes ≡ noWord (now (text .entry)) k ⌝ }
+{
+    if word_start(text, k) < text.len() {
+        return false;
+    }
+    true
 }
 
 // Word k, as a part of the text.
