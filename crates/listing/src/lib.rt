@@ -5,6 +5,9 @@ mod lines; // lines.rt: a listed line, and the line of a refusal
 use crate::lines::put_line;
 use crate::lines::put_refused;
 use directory::Opening;
+pub use numbers::put_decimal;
+pub use numbers::put_digit;
+pub use numbers::put_hex;
 use reader::open;
 use reader::show;
 ghost use mathlib.Core.Path.{_≡_};

@@ -22,7 +22,7 @@ fn digit(d: usize) -> u8
     }
 }
 
-fn put_digit(text: &mut [u8], at: usize, d: usize) -> usize
+pub fn put_digit(text: &mut [u8], at: usize, d: usize) -> usize
     requires { ⌜ (d < 16) × (at < length (now text)) ⌝ }
     ensures { λ to. ⌜ Wrote at (digitOf d ∷ []) (now (text .entry)) (now (text .exit)) to ⌝ }
 {

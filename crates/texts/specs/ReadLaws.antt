@@ -24,7 +24,7 @@ use Rattle.texts.specs.Reading.{mostLines, mostRun, linesRead, linesRigh
 use Rattle.texts.specs.ListLaws.{ends-many}
 
 -- what was written at the start stands there
-written-first : {f before after : List ℕ} {to : ℕ} → Wrote 0 f before after to → length f ≤ length before → take (length f) after ≡ f
+pub written-first : {f before after : List ℕ} {to : ℕ} → Wrote 0 f before after to → length f ≤ length before → take (length f) after ≡ f
 written-first {f} {before} {after} w room = ap (take (length f)) (wrote-whole w room) ∙ take-append-seam f (drop (length f) before)
 
 module _ (text : List ℕ) where

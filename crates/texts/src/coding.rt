@@ -18,7 +18,7 @@ pub const MOST_KEPT: usize = 33;
 const SIGN: usize = 2;
 
 // Whether a line starts with `0x`.
-fn in_hex(line: &[u8]) -> bool
+pub fn in_hex(line: &[u8]) -> bool
     ensures { λ yes. ⌜ yes ≡ inHex (now (line .entry)) ⌝ }
 {
     if line.len() < SIGN {

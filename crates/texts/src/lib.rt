@@ -10,6 +10,7 @@ mod reading; // reading.rt: all codes of a text, and all weights of one
 mod reports; // reports.rt: the report that a line is
 
 pub use coding::MOST_KEPT;
+pub use coding::in_hex;
 pub use coding::read_code;
 pub use lines::line;
 pub use numbers::read_number;

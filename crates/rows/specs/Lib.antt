@@ -1,0 +1,7 @@
+pub mod AFewRows
+pub mod Filling
+pub mod Values
+pub mod Rows
+pub mod FillingLaws
+pub mod ValueLaws
+pub mod RowLaws
