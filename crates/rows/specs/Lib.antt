@@ -4,4 +4,5 @@ pub mod Values
 pub mod Rows
 pub mod FillingLaws
 pub mod ValueLaws
+pub mod SizeLaws
 pub mod RowLaws

@@ -9,6 +9,14 @@ use Rattle.directory.specs.Listing.{decimal}
 use Rattle.listing.specs.TextLaws.{decimal-length}
 use Rattle.rows.specs.Values.{twoDigits, threeDigits, metres, levelText, ageText, longestValue}
 
+pub two-length : (x : ℕ) → length (twoDigits x) ≡ 2
+unfolding twoDigits
+two-length x = refl
+
+pub three-length : (x : ℕ) → length (threeDigits x) ≡ 3
+unfolding threeDigits twoDigits
+three-length x = refl
+
 pub metres-length : (x : ℕ) → length (metres x) ≡ length (decimal (x / 1000)) + 6
 unfolding metres threeDigits twoDigits
 metres-length x = simp length-append (omega arith)

@@ -1,15 +1,13 @@
+-- `rows::codes::readable` meets its contract. Assumes nothing.
+use borrow.Author.Tests.{le-leb, lt-leb}
 use Rattle.rows.proofs.codes.readable.Statement.{statement}
 use Rattle.rows.proofs.codes.readable.Tie as tie
-use Rattle.rows.proofs.codes.readable.Reads as reads
-use Rattle.rows.proofs.codes.readable.Lts as lts
 
--- src/codes.rt:25:9
 returns : tie.Need-returns
-returns c = ?
+returns c = rw (lt-leb _ _ (c .if1 .taken))
 
--- src/codes.rt:21:1
 returns-2 : tie.Need-returns-2
-returns-2 c = ?
+returns-2 c = rw (le-leb _ _ (c .if1 .left))
 
 pub readable-spec : {M : Type 1} → statement M
 readable-spec = tie.close (tie.spec returns returns-2)
