@@ -1,5 +1,10 @@
 pub mod Levels
+pub mod LevelLaws
 pub mod Places
+pub mod PlaceLaws
 pub mod Rules
 pub mod Keeping
+pub mod KeepingLaws
 pub mod Calls
+pub mod RuleSteps
+pub mod CallSteps
