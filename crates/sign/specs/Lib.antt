@@ -6,5 +6,6 @@ pub mod Rules
 pub mod Keeping
 pub mod KeepingLaws
 pub mod Calls
+pub mod Answers
 pub mod RuleSteps
 pub mod CallSteps

@@ -49,8 +49,8 @@ returns c =
     let own : s .args .line ≡ e .enum-told .given .0 .0 = told-line _ (s .args .line) (s .args .level) (s .args .time) _ (sym (said t) ∙ e .enum-told .given .1) in (
       said t,
       d .keep .ensures
-      ∙ ap (λ (z : ℤ). keep (lent s) (s .args .line) z (s .args .time)) (toZ-ofZ {w = w32} (s .fits .level))
-      ∙ kept-accepted (s .args .level) (s .args .time) (lent s) (e .enum-told .given .1 ∙ ap Accepted (sym own)),
+          ∙ ap (λ (z : ℤ). keep (lent s) (s .args .line) z (s .args .time)) (toZ-ofZ {w = w32} (s .fits .level))
+          ∙ kept-accepted (s .args .level) (s .args .time) (lent s) (e .enum-told .given .1 ∙ ap Accepted (sym own)),
     )
 
 returns-2 : tie.Need-returns-2
