@@ -9,3 +9,5 @@ pub mod Calls
 pub mod Answers
 pub mod RuleSteps
 pub mod CallSteps
+pub mod Trace
+pub mod TraceLaws
