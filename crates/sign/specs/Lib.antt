@@ -11,3 +11,8 @@ pub mod RuleSteps
 pub mod CallSteps
 pub mod Trace
 pub mod TraceLaws
+pub mod History
+pub mod HistoryLaws
+pub mod Refusing
+pub mod RefusingLaws
+pub mod PromiseLaws
