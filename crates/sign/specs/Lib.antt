@@ -16,3 +16,4 @@ pub mod HistoryLaws
 pub mod Refusing
 pub mod RefusingLaws
 pub mod PromiseLaws
+pub mod Promises

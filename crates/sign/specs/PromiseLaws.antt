@@ -5,7 +5,7 @@ use mathlib.Core.Bool.{Bool, true, false, cond}
 use mathlib.Core.List.{List, [], _∷_, _++_}
 use Prim.Native.Nat.{ℕ, _+_, _-_, _≤_, _<_}
 use native.Mathlib.Omega.{arith}
-use borrow.Author.Tests.{ltb-false, leb-true, leb-false, le-ltb, le-leb, lt-leb}
+use borrow.Author.Tests.{ltb-false, leb-true, leb-false, not-false}
 use lib.Dec.{ltb, leb}
 use lib.IntN.{ℤ}
 use Rattle.counting.specs.Lists.{same}
@@ -14,6 +14,7 @@ use Rattle.directory.specs.declared.Opening.the-variants as opening
 use Rattle.directory.specs.declared.Found.{Found}
 use Rattle.directory.specs.declared.Found.the-variants.{At, Unknown, Refused}
 use Rattle.directory.specs.Refusals.{first}
+use Rattle.directory.specs.RefusalLaws.{none-right}
 use Rattle.directory.specs.Calls.{headerOf, lookupOf}
 use Rattle.sign.specs.declared.Last.{Last}
 use Rattle.sign.specs.declared.Last.the-variants.{NeverHeard, Heard}
@@ -23,9 +24,11 @@ use Rattle.sign.specs.declared.Answer.{Answer}
 use Rattle.sign.specs.declared.Answer.the-variants as answer
 use Rattle.sign.specs.Rules.{Report, Question, answered, limitAllowed}
 use Rattle.sign.specs.RuleSteps.{answered-never, answered-early, answered-fresh, answered-stale, Passes, enter-found}
-use Rattle.sign.specs.Keeping.{Lists, kept, cleared}
-use Rattle.sign.specs.Calls.{entered, onLine, reportOf, afterReport, askOf}
-use Rattle.sign.specs.CallSteps.{Entered, entered-in}
+use Rattle.sign.specs.Keeping.{Lists, fits, kept, cleared}
+use Rattle.sign.specs.KeepingLaws.{fits-room, OwnPlaceAlone, kept-own}
+use Rattle.sign.specs.Calls.{linesIn, entered, onLine, reportOf, afterReport, askOf}
+use Rattle.sign.specs.CallSteps.{line-below, entered-in}
+use Rattle.sign.specs.Refusing.{lookupRefusal, atLine, inOrder, reportTable}
 use Rattle.sign.specs.RefusingLaws.{report-accepted-exactly}
 use Rattle.sign.specs.Trace.{Call, Reply, log, after, signReply, signNext, sign, Map, nothing, mapAsk, mapNext, plain}
 use Rattle.sign.specs.Trace.Call.{report, ask}
@@ -44,6 +47,15 @@ not-kept f q S d = go (reportOf f q S) d
     go (told.Accepted line) d = absurd (d line refl)
     go told.Unknown d = refl
     go (told.Refused k p) d = refl
+
+-- ---- one that is accepted changes its own place alone
+
+pub accepted-own : (f : List ℕ) (q : Report) (S : Lists) (line : ℕ) → reportOf f q S ≡ told.Accepted line → OwnPlaceAlone S line (q .level) (q .time) (afterReport f q S)
+unfolding afterReport kept reportTable inOrder lookupRefusal atLine
+accepted-own f q S line e =
+    let w = report-accepted-exactly f q S line .0 e in
+    let fit : fits (linesIn f) S ≡ true = not-false _ (none-right (lookupRefusal (lookupOf f (q .code))) _ (w .1) .1 .0) in
+    rw e (kept-own S line (q .level) (q .time) (fits-room (linesIn f) S line fit (line-below f (q .code) line (w .0))))
 
 -- ---- what the rule of a line gives
 
