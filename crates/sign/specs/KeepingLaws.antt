@@ -5,7 +5,7 @@ use mathlib.Core.Bool.{Bool, true, false, cond, _&&_}
 use mathlib.Core.List.{List}
 use Prim.Native.Nat.{ℕ, _+_, _*_, _/_, _≤_, _<_}
 use native.Mathlib.Omega.{arith}
-use borrow.Author.Tests.{eqb-true, eq-eqb, ltb-true}
+use borrow.Author.Tests.{eqb-true, eq-eqb, ltb-true, lt-ltb}
 use lib.Dec.{eqb}
 use lib.IntN.{ℤ, pos}
 use lib.ListN.{length, getD}
@@ -62,6 +62,12 @@ module _ (S : Lists) (line : ℕ) where
   pub heard-nowhere : there ≡ false → heardAt S line ≡ NeverHeard
   unfolding heardAt
   heard-nowhere h = rw h
+
+  -- lists that fit have every line's
+  pub heard-fits : (n : ℕ) → fits n S ≡ true → line < n → heardAt S line ≡ lastAt S line
+  heard-fits n h l =
+      let w = fits-long n S h in
+      heard-there (and-both (lt-ltb line (length (S .levels) / placeBytes) (omega (arith, w .0))) (lt-ltb line (length (S .times) / placeBytes) (omega (arith, w .1))))
 
 -- ---- what is kept
 

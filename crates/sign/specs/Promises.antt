@@ -10,16 +10,17 @@ use Rattle.directory.specs.declared.Found.the-variants as found
 use Rattle.directory.specs.Refusals.{NoneApplies, Given}
 use Rattle.directory.specs.Calls.{openOf, lookupOf}
 use Rattle.directory.specs.EveryFile.{what-opens-has-its-header}
+use Rattle.sign.specs.declared.Last.{Last}
 use Rattle.sign.specs.declared.Reported.{Reported}
 use Rattle.sign.specs.declared.Reported.the-variants as reported
 use Rattle.sign.specs.declared.Answer.{Answer}
 use Rattle.sign.specs.declared.Answer.the-variants as answer
 use Rattle.sign.specs.Rules.{Report, Question, limitAllowed, judged}
-use Rattle.sign.specs.Keeping.{Lists, lastAt, cleared}
+use Rattle.sign.specs.Keeping.{Lists, heardAt, cleared}
 use Rattle.sign.specs.KeepingLaws.{OwnPlaceAlone}
 use Rattle.sign.specs.Calls.{reportOf, afterReport, askOf}
 use Rattle.sign.specs.Refusing.{reportTable, askTable}
-use Rattle.sign.specs.RefusingLaws.{report-refused-given, report-accepted-exactly, report-unknown-exactly, ask-refused-given, ask-unknown-exactly, ask-judged}
+use Rattle.sign.specs.RefusingLaws.{report-refused-given, report-accepted-exactly, report-unknown-exactly, ask-refused-given, ask-unknown-exactly}
 use Rattle.sign.specs.Trace.{Call, log, after, sign, nothing, plain}
 use Rattle.sign.specs.TraceLaws.{log-same, cleared-stands}
 use Rattle.sign.specs.History.{Entry, NoneAccepted, LastAccepted}
@@ -57,8 +58,8 @@ module _ (f : List ℕ) (S : Lists) where
     pub asking-gives-unknown-exactly-if-the-code-is : (askOf f q S ≡ answer.Unknown) ↔ ((lookupOf f (q .code) ≡ found.Unknown) × NoneApplies (askTable f q S))
     asking-gives-unknown-exactly-if-the-code-is = ask-unknown-exactly f q S
 
-    pub asking-gives-what-the-line-says : (line : ℕ) → lookupOf f (q .code) ≡ found.At line → NoneApplies (askTable f q S) → askOf f q S ≡ judged (lastAt S line) (q .now) (q .limit)
-    asking-gives-what-the-line-says = ask-judged f q S
+    pub asking-gives-what-the-line-says : (line : ℕ) → lookupOf f (q .code) ≡ found.At line → NoneApplies (askTable f q S) → askOf f q S ≡ judged (heardAt S line) (q .now) (q .limit)
+    asking-gives-what-the-line-says = laws.ask-heard f q S
 
 -- ---- any calls, one after the other, with any arguments, refused and unknown ones too: from cleared lists on, over one opened file, the lists written by nobody else
 
@@ -106,3 +107,6 @@ reporting-is-decided f q S a b = (a .0 ∙ sym (b .0), a .1 ∙ sym (b .1))
 
 pub asking-is-decided : (f : List ℕ) (q : Question) (S : Lists) {a b : Answer} → a ≡ askOf f q S → b ≡ askOf f q S → a ≡ b
 asking-is-decided f q S a b = a ∙ sym b
+
+pub what-was-heard-is-decided : (S : Lists) (line : ℕ) {a b : Last} → a ≡ heardAt S line → b ≡ heardAt S line → a ≡ b
+what-was-heard-is-decided S line a b = a ∙ sym b
