@@ -1,11 +1,12 @@
 -- The last reports as the lists keep them: the levels and the times, one place a line. Assumes nothing.
-use mathlib.Core.Bool.{Bool, _&&_}
+use mathlib.Core.Bool.{Bool, _&&_, cond}
 use mathlib.Core.List.{List}
-use Prim.Native.Nat.{ℕ, _+_, _≤_}
-use lib.Dec.{eqb}
+use Prim.Native.Nat.{ℕ, _+_, _/_, _≤_}
+use lib.Dec.{eqb, ltb}
 use lib.IntN.{ℤ}
 use lib.ListN.{length}
 use Rattle.sign.specs.declared.Last.{Last}
+use Rattle.sign.specs.declared.Last.the-variants.{NeverHeard}
 use Rattle.sign.specs.declared.Reported.{Reported}
 use Rattle.sign.specs.declared.Reported.the-variants.{Accepted, Unknown, Refused}
 use Rattle.sign.specs.Levels.{twos, fromTwos}
@@ -35,6 +36,13 @@ Room line levels times = (placeAt line + placeBytes ≤ length levels) × (place
 -- the last report of a line
 unfoldable pub lastAt : Lists → ℕ → Last
 lastAt S line = lastOf (fromTwos (numberAt (S .levels) line)) (numberAt (S .times) line)
+
+-- the same where the lists may have no such place: then it was never heard
+abbrev pub hasPlace : ℕ → ℕ → Bool
+hasPlace line bytes = ltb line (bytes / placeBytes)
+
+unfoldable pub heardAt : Lists → ℕ → Last
+heardAt S line = cond (hasPlace line (length (S .levels)) && hasPlace line (length (S .times))) (lastAt S line) NeverHeard
 
 -- the lists with a report put at a line
 unfoldable pub keep : Lists → ℕ → ℤ → ℕ → Lists

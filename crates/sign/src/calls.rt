@@ -46,14 +46,7 @@ pub fn report(
 }
 
 // What the sign knows of a code at a moment, which the documents call now.
-pub fn ask(
-    file: &[u8],
-    code: &[u8],
-    moment: u32,
-    limit: u32,
-    levels: &[u8],
-    times: &[u8],
-) -> Answer
+pub fn ask(file: &[u8], code: &[u8], moment: u32, limit: u32, levels: &[u8], times: &[u8]) -> Answer
     ensures { λ o. ⌜ o ≡ askOf (now (file .entry)) (aQuestion (now (code .entry)) moment limit) (lists (now (levels .entry)) (now (times .entry))) ⌝ }
 {
     match enter(file, code, limit_allowed(limit), levels.len(), times.len()) {

@@ -8,6 +8,7 @@ mod calls; // calls.rt: reporting and asking
 
 pub use calls::ask;
 pub use calls::report;
+pub use keeping::heard;
 pub use levels::HIGHEST_LEVEL;
 pub use levels::LOWEST_LEVEL;
 
