@@ -1,12 +1,4 @@
-// What the arguments are, and the numbers and texts that they give.
-use files::Got;
-use files::read_argument;
-use telling::say;
-use telling::say_argument;
-use telling::say_bytes;
-use telling::say_number;
-use texts::Number;
-use texts::read_number;
+// What the arguments are, and room for the texts that they name.
 ghost use mathlib.Core.Path.{_≡_};
 ghost use lib.ListN.{length};
 
@@ -23,8 +15,11 @@ pub const V: usize = 4;
 
 pub const FILE: usize = 5;
 
+// The largest number that is read as R or V; which of them are sizes is for building to say.
+pub const MOST_SIZE: u32 = 65_535;
+
 // 1,025 lines of 0x and 33 pairs of digits, each with a carriage return and a newline.
-const LONGEST_TEXT: usize = 71_750;
+pub const LONGEST_TEXT: usize = 71_750;
 
 // One byte more, which a longer text fills.
 const TEXT_ROOM: usize = 71_751;
@@ -34,34 +29,4 @@ pub fn text_buffer() -> [u8; TEXT_ROOM]
     ensures { λ text. ⌜ 71751 ≡ length text ⌝ }
 {
     [0; TEXT_ROOM]
-}
-
-// The number that argument i is.
-pub fn number_argument(i: usize, name: &[u8]) -> Number {
-    let mut word = io::buffer();
-    let length = os::arg(i, &mut word);
-    let number = read_number(&word[..length]);
-    if let Number::Wrong = number {
-        say(name);
-        say(b" is ");
-        say_bytes(&word[..length]);
-        say(b"; it must be a number from 0 to 65535\n");
-    }
-    number
-}
-
-// Reads the text that argument i names, if the buffer has more room than it takes.
-pub fn read_text(i: usize, text: &mut [u8]) -> Got {
-    let got = read_argument(i, text);
-    let Got::Bytes(size) = got else {
-        return got;
-    };
-    if size < text.len() {
-        return got;
-    }
-    say_argument(i);
-    say(b" is longer than ");
-    say_number(LONGEST_TEXT);
-    say(b" bytes\n");
-    Got::Failed
 }

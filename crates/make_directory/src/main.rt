@@ -1,20 +1,22 @@
 // Makes a directory file out of two texts, one of codes and one of weights: make_directory CODES WEIGHTS R V FILE.
-mod arguments; // arguments.rt: what the arguments are, and the numbers and texts that they give
+mod arguments; // arguments.rt: what the arguments are, and room for the texts that they name
 mod words; // words.rt: why nothing was made
 mod done; // done.rt: the file, written, and what is said of it
 
 use arguments::ARGUMENTS;
 use arguments::CODES;
+use arguments::LONGEST_TEXT;
+use arguments::MOST_SIZE;
 use arguments::R;
 use arguments::V;
 use arguments::WEIGHTS;
-use arguments::number_argument;
-use arguments::read_text;
 use arguments::text_buffer;
 use beginnings::first_bytes;
 use done::file_buffer;
 use done::write_file;
 use files::Got;
+use given::number_argument;
+use given::text_argument;
 use making::Made;
 use making::make;
 use telling::say;
@@ -23,7 +25,7 @@ use words::tell_refused;
 use words::tell_wrong_line;
 use words::tell_wrong_word;
 
-fn make_of(codes: &[u8], weights: &[u8], r: u16, v: u16, file: &mut [u8]) {
+fn make_of(codes: &[u8], weights: &[u8], r: u32, v: u32, file: &mut [u8]) {
     match make(codes, weights, r as usize, v as usize, file) {
         Made::Done(n) => write_file(n, r as usize, v as usize, file),
         Made::WrongLine(k) => tell_wrong_line(codes, k),
@@ -33,16 +35,16 @@ fn make_of(codes: &[u8], weights: &[u8], r: u16, v: u16, file: &mut [u8]) {
 }
 
 fn run(codes: &mut [u8], weights: &mut [u8], file: &mut [u8]) {
-    let Number::Is(r) = number_argument(R, b"R") else {
+    let Number::Is(r) = number_argument(R, b"R", MOST_SIZE) else {
         return;
     };
-    let Number::Is(v) = number_argument(V, b"V") else {
+    let Number::Is(v) = number_argument(V, b"V", MOST_SIZE) else {
         return;
     };
-    let Got::Bytes(many) = read_text(CODES, codes) else {
+    let Got::Bytes(many) = text_argument(CODES, codes, LONGEST_TEXT) else {
         return;
     };
-    let Got::Bytes(more) = read_text(WEIGHTS, weights) else {
+    let Got::Bytes(more) = text_argument(WEIGHTS, weights, LONGEST_TEXT) else {
         return;
     };
     make_of(

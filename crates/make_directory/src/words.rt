@@ -10,6 +10,8 @@ use telling::refused;
 use telling::say;
 use telling::say_argument;
 use telling::say_bytes;
+use telling::say_count;
+use telling::say_line;
 use telling::say_number;
 use texts::MOST_WORDS;
 use texts::Weights;
@@ -17,38 +19,26 @@ use texts::line;
 use texts::read_weights;
 use texts::word;
 
-// Lines and words are counted from 1.
-fn counted(k: usize) -> usize {
-    if k < usize::MAX { k + 1 } else { k }
-}
-
-// The name of the codes' file, the number of a line and, if there is any, its text.
-fn say_line(codes: &[u8], k: usize) {
-    say_argument(CODES);
-    say(b", line ");
-    say_number(counted(k));
-    let text = line(codes, k);
-    if 0 < text.len() {
-        say(b": ");
-        say_bytes(text);
-    }
+// Line k of the codes.
+fn say_code(codes: &[u8], k: usize) {
+    say_line(CODES, k, line(codes, k));
 }
 
 pub fn tell_wrong_line(codes: &[u8], k: usize) {
-    say_line(codes, k);
+    say_code(codes, k);
     say(b" is not hex: after 0x come pairs of the digits 0 to 9 and a to f\n");
 }
 
 pub fn tell_wrong_word(weights: &[u8], k: usize) {
     say_argument(WEIGHTS);
     say(b", number ");
-    say_number(counted(k));
+    say_count(k);
     say(b": ");
     say_bytes(word(weights, k));
     say(b" is not a number from 0 to 65535\n");
 }
 
-fn say_count(count: usize) {
+fn say_many(count: usize) {
     say(b" has ");
     say_number(count);
     say(b" numbers");
@@ -64,23 +54,23 @@ fn say_weights(weights: &[u8]) {
     match count {
         1 => say(b" has 1 number"),
         MOST_WORDS => say(b" has more than 96 numbers"),
-        _ => say_count(count),
+        _ => say_many(count),
     }
 }
 
-fn say_size(name: &[u8], size: u16) {
+fn say_size(name: &[u8], size: u32) {
     say(name);
     say(b" is ");
     say_number(size as usize);
 }
 
 // A refusal of building: first what was refused, and then why.
-pub fn tell_refused(number: u8, place: usize, r: u16, v: u16, codes: &[u8], weights: &[u8]) {
+pub fn tell_refused(number: u8, place: usize, r: u32, v: u32, codes: &[u8], weights: &[u8]) {
     match number {
         WRONG_ARITY => say_size(b"R", r),
         WRONG_PART_SIZE => say_size(b"V", v),
         WRONG_WEIGHTS => say_weights(weights),
-        WRONG_LIST | REPEATED_CODE => say_line(codes, place),
+        WRONG_LIST | REPEATED_CODE => say_code(codes, place),
         _ => say_argument(CODES),
     }
     refused(number, place);

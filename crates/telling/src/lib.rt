@@ -16,6 +16,11 @@ pub fn say_number(number: usize) {
     io::print_decimal(STDERR_FILENO, number as u64);
 }
 
+// Lines and words are counted from 1.
+pub fn say_count(k: usize) {
+    say_number(if k < usize::MAX { k + 1 } else { k });
+}
+
 // The program's argument i.
 pub fn say_argument(i: usize) {
     let mut text = io::buffer();
@@ -65,5 +70,16 @@ pub fn say_bytes(bytes: &[u8]) {
     }
     if MOST_SHOWN < bytes.len() {
         say(b"..");
+    }
+}
+
+// The name of a file, which argument i is, the number of a line in it and, if there is any, the line's text.
+pub fn say_line(i: usize, k: usize, text: &[u8]) {
+    say_argument(i);
+    say(b", line ");
+    say_count(k);
+    if 0 < text.len() {
+        say(b": ");
+        say_bytes(text);
     }
 }

@@ -23,7 +23,7 @@ pub(crate) fn without_return(line: &[u8]) -> &[u8]
 }
 
 // The line that begins at a place.
-pub(crate) fn line_at(text: &[u8], at: usize) -> &[u8]
+pub fn line_at(text: &[u8], at: usize) -> &[u8]
     requires { ⌜ at ≤ length (now text) ⌝ }
     ensures { λ l. ⌜ now l ≡ withoutReturn (before isNewline (drop at (now (text .entry)))) ⌝ }
 {
@@ -32,7 +32,7 @@ pub(crate) fn line_at(text: &[u8], at: usize) -> &[u8]
 }
 
 // Where the line after it begins: past its newline, or at the end of the text where it has none.
-pub(crate) fn next_line(text: &[u8], at: usize) -> usize
+pub fn next_line(text: &[u8], at: usize) -> usize
     requires { ⌜ at ≤ length (now text) ⌝ }
     ensures { λ next. ⌜ Left (now (text .entry)) next (drop 1 (since isNewline (drop at (now (text .entry))))) ⌝ }
 {

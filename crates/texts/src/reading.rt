@@ -21,7 +21,7 @@ pub const MOST_LINES: usize = 1_025;
 
 pub const MOST_WORDS: usize = 97;
 
-pub const MOST_WEIGHT: u32 = 65_535;
+const MOST_WEIGHT: u32 = 65_535;
 
 // The codes of a text, one a line: their bytes go to the start of the run and their ends to the start of the ends, up to the first line that is wrong.
 pub fn read_codes(text: &[u8], run: &mut [u8], ends: &mut [u16]) -> Codes
