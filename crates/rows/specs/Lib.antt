@@ -2,7 +2,9 @@ pub mod AFewRows
 pub mod Filling
 pub mod Values
 pub mod Rows
+pub mod Signs
 pub mod FillingLaws
 pub mod ValueLaws
 pub mod SizeLaws
 pub mod RowLaws
+pub mod SignLaws

@@ -5,9 +5,10 @@ mod codes; // codes.rt: the column of codes
 mod values; // values.rt: the columns of levels and ages
 mod answers; // answers.rt: what an answer lets a row show, and its word
 mod row; // row.rt: a whole row
+mod signs; // signs.rt: the whole sign
 
-pub use row::LONGEST_ROW;
-pub use row::put_row;
+pub use signs::put_rows;
+pub use signs::sign_buffer;
 
 // Where the blanks go that fill a text to a width.
 pub enum Side {

@@ -22,9 +22,6 @@ const LEVELS: usize = 9;
 
 const AGES: usize = 13;
 
-// The longest row of a code of at most 32 bytes.
-pub const LONGEST_ROW: usize = 112;
-
 fn put_columns(text: &mut [u8], at: usize, level: Value, age: Value) -> usize
     requires { ⌜ at + longestColumn + longestColumn ≤ length (now text) ⌝ }
     ensures written { λ to. ⌜ Wrote at (columns level age) (now (text .entry)) (now (text .exit)) to ⌝ }
@@ -46,7 +43,7 @@ fn put_seen(text: &mut [u8], at: usize, seen: Seen) -> usize
 }
 
 // The row of a code: its line's last report, what asking at a moment answers, and that moment.
-pub fn put_row(
+pub(crate) fn put_row(
     text: &mut [u8],
     at: usize,
     code: &[u8],
