@@ -1,1 +1,3 @@
 pub mod ListsLaws
+pub mod Taken
+pub mod TakenSteps

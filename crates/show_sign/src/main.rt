@@ -63,7 +63,15 @@ fn print_sign(file: &[u8], n: usize, moment: u32, limit: u32, levels: &[u8], tim
 }
 
 // Of a file that opens, with n lines, and two lists of as many places.
-fn show(file: &[u8], n: usize, reports: &[u8], moment: u32, limit: u32, levels: &mut [u8], times: &mut [u8])
+fn show(
+    file: &[u8],
+    n: usize,
+    reports: &[u8],
+    moment: u32,
+    limit: u32,
+    levels: &mut [u8],
+    times: &mut [u8],
+)
     requires { ⌜ (n ≤ mostCodes) × ((length (now levels) ≡ placeAt n) × (length (now times) ≡ placeAt n)) ⌝ }
 {
     clear(n, levels, times);
@@ -77,7 +85,15 @@ fn lend(file: &[u8], n: usize, reports: &[u8], moment: u32, limit: u32)
     let mut levels = [0u8; MOST_BYTES];
     let mut times = [0u8; MOST_BYTES];
     let size = PLACE * n;
-    show(file, n, reports, moment, limit, &mut levels[..size], &mut times[..size]);
+    show(
+        file,
+        n,
+        reports,
+        moment,
+        limit,
+        &mut levels[..size],
+        &mut times[..size],
+    );
 }
 
 // A file that does not open has no sign.
@@ -105,7 +121,12 @@ fn run(file: &mut [u8], reports: &mut [u8]) {
     let Got::Bytes(size) = text_argument(REPORTS, reports, LONGEST_TEXT) else {
         return;
     };
-    show_file(first_bytes(file, length), first_bytes(reports, size), moment, limit);
+    show_file(
+        first_bytes(file, length),
+        first_bytes(reports, size),
+        moment,
+        limit,
+    );
 }
 
 fn main() {

@@ -2,6 +2,7 @@
 use crate::arguments::FILE;
 use crate::arguments::REPORTS;
 use sign::EARLIER_TIME;
+use sign::Reported;
 use sign::WRONG_LEVEL;
 use telling::refused;
 use telling::say;
@@ -30,13 +31,13 @@ pub fn tell_wrong(line: &[u8], k: usize) {
 }
 
 // Line k, a report of a code that the file does not have.
-pub fn tell_unknown(line: &[u8], k: usize) {
+fn tell_unknown(line: &[u8], k: usize) {
     say_line(REPORTS, k, line);
     say(b": not a code of this directory\n");
 }
 
 // Line k, a report that is refused.
-pub fn tell_refused(line: &[u8], k: usize, number: u8, place: usize) {
+fn tell_refused(line: &[u8], k: usize, number: u8, place: usize) {
     say_line(REPORTS, k, line);
     match number {
         WRONG_LEVEL => say(b": the level is not -20000 to 20000"),
@@ -44,4 +45,13 @@ pub fn tell_refused(line: &[u8], k: usize, number: u8, place: usize) {
         _ => (),
     }
     refused(number, place);
+}
+
+// What became of the report in line k, unless it was accepted.
+pub fn tell_reported(line: &[u8], k: usize, reported: Reported) {
+    match reported {
+        Reported::Accepted(_) => (),
+        Reported::Unknown => tell_unknown(line, k),
+        Reported::Refused(number, place) => tell_refused(line, k, number, place),
+    }
 }

@@ -1,35 +1,30 @@
+-- `show_sign::lend` is safe and ends: a file that opens has at most 1,024 lines, so the lists have room. Assumes nothing.
+use mathlib.Core.Path.{sym}
+use Prim.Native.Nat.{_*_}
+use native.Mathlib.Omega.{arith}
+use lib.Seq.{length-take-le}
 use borrow.Author.Needs.{needs}
 use Rattle.show_sign.proofs.lend.Statement.{statement}
 use Rattle.show_sign.proofs.lend.Tie as tie
-use Rattle.show_sign.proofs.lend.Reads as reads
-use Rattle.show_sign.proofs.lend.Lts as lts
-use Rattle.show_sign.proofs.show.Reads as show-reads
 
--- src/main.rt:79:16
 mul-size : tie.Need-mul-size
 mul-size c = search needs
 
--- src/main.rt:80:43
 array-borrow-prefix-levels : tie.Need-array-borrow-prefix-levels
 array-borrow-prefix-levels c = search needs
 
--- src/main.rt:80:43
 slice-aggregate-show : tie.Need-slice-aggregate-show
-slice-aggregate-show c = ?
+slice-aggregate-show c = sym (length-take-le (4 * c .before .before .before .args .n) _ (omega arith))
 
--- src/main.rt:80:64
 array-borrow-prefix-times : tie.Need-array-borrow-prefix-times
 array-borrow-prefix-times c = search needs
 
--- src/main.rt:80:64
 slice-aggregate-show-2 : tie.Need-slice-aggregate-show-2
-slice-aggregate-show-2 c = ?
+slice-aggregate-show-2 c = sym (length-take-le (4 * c .before .before .before .before .args .n) _ (omega arith))
 
--- src/main.rt:80:5
 show-requires : tie.Need-show-requires
-show-requires c κs = ?
+show-requires c κs = let n = c .before .before .before .before .args .n in (search needs, (length-take-le (4 * n) _ (omega arith), length-take-le (4 * n) _ (omega arith)))
 
--- src/main.rt:74:1
 returns : tie.Need-returns
 returns c = search needs
 

@@ -1,70 +1,58 @@
+-- `show_sign::reports::take_reports` meets its contract. The invariant: k lines are taken, and line k begins at `at`. The measure is what is left of the text. Assumes nothing.
+use mathlib.Core.Path.{_≡_}
+use Prim.Native.Nat.{_-_}
+use native.Mathlib.Omega.{arith}
+use lib.ListN.{length}
+use borrow.Author.Needs.{needs}
+use Rattle.sign.specs.Keeping.{lists}
+use Rattle.show_sign.specs.TakenSteps.{TakenTo, taken-none, next-later, taken-more, taken-all}
 use Rattle.show_sign.proofs.reports.take_reports.Statement.{statement}
 use Rattle.show_sign.proofs.reports.take_reports.Tie as tie
-use Rattle.show_sign.proofs.reports.take_reports.Reads as reads
-use Rattle.show_sign.proofs.reports.take_reports.Lts as lts
-use Rattle.show_sign.proofs.reports.take_report.Reads as take-report-reads
-use Rattle.texts.proofs.line_at.Reads as line-at-reads
-use Rattle.texts.proofs.next_line.Reads as next-line-reads
 
 abbrev Inv-loop : tie.InvT-loop
-Inv-loop file text levels₀ times₀ at₀ k₀ levels times at k = ?
+Inv-loop file text levels₀ times₀ at₀ k₀ levels times at k = TakenTo file text (lists levels₀ times₀) (lists levels times) at k × (length levels ≡ length levels₀) × (length times ≡ length times₀)
 
 abbrev μ-loop : tie.MeasureT-loop
-μ-loop file text levels₀ times₀ at₀ k₀ levels times at k = ?
+μ-loop file text levels₀ times₀ at₀ k₀ levels times at k = length text - at
 
--- src/reports.rt:31:5
 loop-holds : tie.Need-loop-holds Inv-loop μ-loop
-loop-holds c = ?
+loop-holds c = (taken-none _ _ _, omega arith, omega arith)
 
--- src/reports.rt:32:13
 line-at-requires : tie.Need-line-at-requires Inv-loop μ-loop
-line-at-requires c κs = ?
+line-at-requires c κs = search needs
 
--- src/reports.rt:33:9
 next-line-requires : tie.Need-next-line-requires Inv-loop μ-loop
-next-line-requires c κs = ?
+next-line-requires c κs = search needs
 
--- src/reports.rt:34:9
 take-report-requires : tie.Need-take-report-requires Inv-loop μ-loop
-take-report-requires c κs = ?
+take-report-requires c κs = search needs
 
--- src/reports.rt:35:9
-add-k : tie.Need-add-k Inv-loop μ-loop
-add-k c = ?
+-- the place of the next line
+abbrev next : tie.After-slice-known4 Inv-loop μ-loop → tie.After-next-line Inv-loop μ-loop
+next c = c .before .before .before .before .before .before .before
 
--- src/reports.rt:31:5
-loop-less : tie.Need-loop-less Inv-loop μ-loop
-loop-less c = ?
-
--- src/reports.rt:31:5
 loop-again : tie.Need-loop-again Inv-loop μ-loop
-loop-again c = ?
+loop-again c =
+    let w = c .before .before .before .before in
+    let n = next c in
+    let l = n .before in
+    let v = l .before in
+    (taken-more (v .before .loop .inv .0) (v .loop-test .taken) (l .line-at .ensures) (n .next-line .ensures) (w .take-report .ensures), omega arith, omega arith)
 
--- src/reports.rt:28:1
+add-k : tie.Need-add-k Inv-loop μ-loop
+add-k c = let v = next c .before .before in omega (arith, v .before .loop .inv .0 .few, v .loop-test .taken)
+
+loop-less : tie.Need-loop-less Inv-loop μ-loop
+loop-less c = let n = next c in omega (arith, next-later (n .before .before .loop-test .taken) (n .next-line .ensures), n .next-line .ensures .inside)
+
 same-length : tie.Need-same-length Inv-loop μ-loop
-same-length c = ?
+same-length c = omega arith
 
--- src/reports.rt:28:1
 same-length-2 : tie.Need-same-length-2 Inv-loop μ-loop
-same-length-2 c = ?
+same-length-2 c = omega arith
 
--- src/reports.rt:28:1
 returns : tie.Need-returns Inv-loop μ-loop
-returns c = ?
+returns c = taken-all (c .before .loop .inv .0) (c .loop-test .left)
 
 pub take-reports-spec : {M : Type 1} → statement M
-take-reports-spec =
-    tie.close
-    (tie.spec
-    Inv-loop
-    μ-loop
-    loop-holds
-    line-at-requires
-    next-line-requires
-    take-report-requires
-    add-k
-    loop-less
-    loop-again
-    same-length
-    same-length-2
-    returns)
+take-reports-spec = tie.close (tie.spec Inv-loop μ-loop loop-holds line-at-requires next-line-requires take-report-requires add-k loop-less loop-again same-length same-length-2 returns)
