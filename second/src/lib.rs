@@ -16,6 +16,7 @@ pub mod looking;
 pub mod opening;
 pub mod random;
 pub mod refusals;
+pub mod sign;
 pub mod sizes;
 pub mod table;
 pub mod text;

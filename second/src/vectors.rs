@@ -34,6 +34,7 @@ pub(crate) mod inputs;
 pub(crate) mod lists;
 mod order;
 pub(crate) mod script;
+pub mod traces;
 
 use crate::header::checked_header;
 use crate::random::Random;
