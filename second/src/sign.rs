@@ -9,11 +9,11 @@ use crate::answers::{
 };
 use crate::header::checked_header;
 use crate::looking::lookup;
-use places::{last_report, put_report, LISTED_BYTES};
+use places::{last_report, put_report};
 use std::ops::RangeInclusive;
 
 pub use map::PlainMap;
-pub use places::cleared;
+pub use places::{cleared, PLACE_BYTES};
 
 /// The levels that can be reported, in millimetres. A stored level outside them means that the line was never heard.
 pub const LEVELS: RangeInclusive<i32> = -20_000..=20_000;
@@ -106,7 +106,7 @@ fn check_limit(limit: u32) -> Result<(), Refusal> {
 
 /// Refusal 23: a list that has not exactly one place for each of the file's n lines.
 fn check_lists(file: &[u8], levels: &[u8], times: &[u8]) -> Result<(), Refusal> {
-    let right = LISTED_BYTES * checked_header(file)?.n;
+    let right = PLACE_BYTES * checked_header(file)?.n;
     if levels.len() != right || times.len() != right {
         return refuse(LISTS_LENT, 0);
     }

@@ -5,7 +5,7 @@ use super::{Report, LEVELS};
 use std::ops::Range;
 
 /// Bytes of a place.
-pub const LISTED_BYTES: usize = 4;
+pub const PLACE_BYTES: usize = 4;
 
 /// What every place of a cleared list holds.
 const CLEARED: Report = Report {
@@ -34,12 +34,12 @@ pub fn put_report(levels: &mut [u8], times: &mut [u8], line: usize, report: Repo
     times[place(line)].copy_from_slice(&report.time.to_le_bytes());
 }
 
-fn listed(list: &[u8], line: usize) -> [u8; LISTED_BYTES] {
-    let mut bytes = [0; LISTED_BYTES];
+fn listed(list: &[u8], line: usize) -> [u8; PLACE_BYTES] {
+    let mut bytes = [0; PLACE_BYTES];
     bytes.copy_from_slice(&list[place(line)]);
     bytes
 }
 
 fn place(line: usize) -> Range<usize> {
-    LISTED_BYTES * line..LISTED_BYTES * (line + 1)
+    PLACE_BYTES * line..PLACE_BYTES * (line + 1)
 }

@@ -2,6 +2,7 @@
 //! list and file, and lists of the most codes. Each test file uses a part of it.
 #![allow(dead_code)]
 
+pub mod checksums;
 pub mod meaning;
 pub mod sections;
 pub mod signs;
