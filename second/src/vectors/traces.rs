@@ -93,6 +93,16 @@ impl Trace {
         }
     }
 
+    /// Lists with so many places, as calls of this trace could have left them; some levels are none.
+    pub fn lists(&self, places: usize, random: &mut Random) -> [Vec<u8>; 2] {
+        let mut lists = [Vec::new(), Vec::new()];
+        for _ in 0..places {
+            lists[0].extend(level(random).to_le_bytes());
+            lists[1].extend(self.time(random).to_le_bytes());
+        }
+        lists
+    }
+
     /// So many seconds as fewer steps than this have.
     fn steps(&self, below: u64, random: &mut Random) -> u32 {
         self.step * random.below(below) as u32
