@@ -1,0 +1,11 @@
+pub mod Levels
+pub mod LevelLaws
+pub mod Places
+pub mod PlaceLaws
+pub mod Rules
+pub mod Keeping
+pub mod KeepingLaws
+pub mod Calls
+pub mod Answers
+pub mod RuleSteps
+pub mod CallSteps
