@@ -1,4 +1,4 @@
-// What vectors hold, each in a buffer with a length of its own: the bytes of the file under trial, of the code that is asked for and of the run; the ends and the weights.
+// What vectors hold, each in a buffer with a length of its own: the bytes of the file under trial, of the code that is asked for and of the run; the ends and the weights; the sign's lists.
 ghost use mathlib.Core.Path.{_≡_};
 ghost use lib.ListN.{length};
 
@@ -6,6 +6,12 @@ ghost use lib.ListN.{length};
 const MOST_ENDS: usize = 2048;
 
 const MOST_WEIGHTS: usize = 128;
+
+// The most bytes of a list of the sign: two places more than the most lines have.
+const LONGEST_LIST: usize = 4104;
+
+// Bytes of a place of such a list.
+pub const PLACE_BYTES: usize = 4;
 
 // The largest byte.
 const MOST_BYTE: u8 = 255;
@@ -22,6 +28,13 @@ pub fn no_weights() -> [u16; MOST_WEIGHTS]
     ensures { λ weights. ⌜ 128 ≡ length weights ⌝ }
 {
     [0; MOST_WEIGHTS]
+}
+
+// The same for the bytes of a list.
+pub fn no_list() -> [u8; LONGEST_LIST]
+    ensures { λ list. ⌜ 4104 ≡ length list ⌝ }
+{
+    [0; LONGEST_LIST]
 }
 
 // Puts a byte at a place, if the buffer has it.
@@ -52,6 +65,24 @@ pub fn count_up(buffer: &mut [u8], first: u8, to: usize) {
     while at < to {
         put(buffer, at, byte);
         byte = next_byte(byte);
+        at += 1;
+    }
+}
+
+// The byte at a place of a cleared list of levels: each place holds 30,000, which is 117 * 256 + 48.
+fn cleared_byte(at: usize) -> u8 {
+    match at % PLACE_BYTES {
+        0 => 48,
+        1 => 117,
+        _ => 0,
+    }
+}
+
+// The bytes up to a place become those of a cleared list of levels.
+pub fn clear_levels(buffer: &mut [u8], to: usize) {
+    let mut at = 0;
+    while at < to {
+        put(buffer, at, cleared_byte(at));
         at += 1;
     }
 }

@@ -1,13 +1,16 @@
-// The trial of the reader and the builder: reads vectors on standard input (second/src/vectors.rs says what they are), makes the calls, and writes the answers.
+// The trial of the reader, the builder and the sign: reads vectors on standard input (second/src/vectors.rs says what they are), makes the calls, and writes the answers.
 mod digits; // digits.rt: digits, and numbers made of them
 mod held; // held.rt: what vectors hold
 mod reading; // reading.rt: vectors, byte by byte
+mod sizing; // sizing.rt: lengths of what is held
+mod signs; // signs.rt: what vectors of the sign ask for
 mod calls; // calls.rt: what vectors ask for
 mod sums; // sums.rt: checksums of a buffer
 mod answers; // answers.rt: the answers
 
 use calls::step;
 use held::no_ends;
+use held::no_list;
 use held::no_weights;
 use libc::STDIN_FILENO;
 use reading::Trial;
@@ -25,13 +28,15 @@ fn go_through(
     run: &mut [u8],
     ends: &mut [u16],
     weights: &mut [u16],
+    levels: &mut [u8],
+    times: &mut [u8],
 ) -> Trial {
     let mut trial = from;
     let mut i = 0;
     while i < piece.len() {
         let byte = piece[i];
         i += 1;
-        trial = step(trial, byte, file, code, run, ends, weights);
+        trial = step(trial, byte, file, code, run, ends, weights, levels, times);
     }
     trial
 }
@@ -44,6 +49,8 @@ fn go_on(
     run: &mut [u8],
     ends: &mut [u16],
     weights: &mut [u16],
+    levels: &mut [u8],
+    times: &mut [u8],
 ) {
     let mut trial = start();
     let mut pieces = MOST_PIECES;
@@ -52,7 +59,17 @@ fn go_on(
         if n == 0 {
             return;
         }
-        trial = go_through(trial, &piece[..n], file, code, run, ends, weights);
+        trial = go_through(
+            trial,
+            &piece[..n],
+            file,
+            code,
+            run,
+            ends,
+            weights,
+            levels,
+            times,
+        );
         pieces -= 1;
     }
 }
@@ -64,6 +81,8 @@ fn main() {
     let mut run = io::large_buffer();
     let mut ends = no_ends();
     let mut weights = no_weights();
+    let mut levels = no_list();
+    let mut times = no_list();
     go_on(
         &mut piece,
         &mut file,
@@ -71,5 +90,7 @@ fn main() {
         &mut run,
         &mut ends,
         &mut weights,
+        &mut levels,
+        &mut times,
     );
 }
