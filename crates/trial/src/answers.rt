@@ -1,4 +1,5 @@
 // The answers of the calls, as the second program writes them.
+use crate::levels::size_of;
 use crate::sums::Sums;
 use directory::Built;
 use directory::Found;
@@ -113,12 +114,11 @@ pub fn write_reported(told: Reported, levels: Sums, times: Sums) {
 // A blank and a level, with a minus before it where it is below zero.
 fn write_level(level: i32) {
     if level < 0 {
-        let above = -1 - level;
         write(b" -");
-        io::print_decimal(STDOUT_FILENO, above as u64 + 1);
-        return;
+    } else {
+        write(b" ");
     }
-    write_number(level as u64);
+    io::print_decimal(STDOUT_FILENO, size_of(level));
 }
 
 pub fn write_asked(answer: Answer) {

@@ -1,5 +1,6 @@
 // The trial of the reader, the builder and the sign: reads vectors on standard input (second/src/vectors.rs says what they are), makes the calls, and writes the answers.
 mod digits; // digits.rt: digits, and numbers made of them
+mod levels; // levels.rt: levels as they are written
 mod held; // held.rt: what vectors hold
 mod reading; // reading.rt: vectors, byte by byte
 mod sizing; // sizing.rt: lengths of what is held
@@ -41,6 +42,35 @@ fn go_through(
     trial
 }
 
+// Goes through the next piece of standard input; where there is none, the trial has ended.
+fn go_through_next(
+    from: Trial,
+    piece: &mut [u8],
+    file: &mut [u8],
+    code: &mut [u8],
+    run: &mut [u8],
+    ends: &mut [u16],
+    weights: &mut [u16],
+    levels: &mut [u8],
+    times: &mut [u8],
+) -> Trial {
+    let n = io::read_full(STDIN_FILENO, piece);
+    if n == 0 {
+        return from.end();
+    }
+    go_through(
+        from,
+        &piece[..n],
+        file,
+        code,
+        run,
+        ends,
+        weights,
+        levels,
+        times,
+    )
+}
+
 // Goes through standard input, piece by piece.
 fn go_on(
     piece: &mut [u8],
@@ -55,22 +85,11 @@ fn go_on(
     let mut trial = start();
     let mut pieces = MOST_PIECES;
     while 0 < pieces {
-        let n = io::read_full(STDIN_FILENO, piece);
-        if n == 0 {
+        pieces -= 1;
+        trial = go_through_next(trial, piece, file, code, run, ends, weights, levels, times);
+        if trial.ended {
             return;
         }
-        trial = go_through(
-            trial,
-            &piece[..n],
-            file,
-            code,
-            run,
-            ends,
-            weights,
-            levels,
-            times,
-        );
-        pieces -= 1;
     }
 }
 

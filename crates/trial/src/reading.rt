@@ -38,6 +38,8 @@ pub struct Trial {
     pub minus: bool,
     // Whether something was read that no vector has.
     pub bad: bool,
+    // Whether there are no more vectors.
+    pub ended: bool,
 }
 
 // Before the first vector.
@@ -58,6 +60,7 @@ pub fn start() -> Trial {
         count: 0,
         minus: false,
         bad: false,
+        ended: false,
     }
 }
 
@@ -90,6 +93,12 @@ impl Trial {
         self.count = 0;
         self.minus = false;
         self.bad = false;
+        self
+    }
+
+    // After the last vector.
+    pub fn end(mut self) -> Trial {
+        self.ended = true;
         self
     }
 

@@ -6,16 +6,14 @@ use crate::held::PLACE_BYTES;
 use crate::held::beginning;
 use crate::held::clear;
 use crate::held::clear_levels;
+use crate::levels::level_fits;
+use crate::levels::level_of;
 use crate::reading::Trial;
 use crate::sizing::resize;
 use crate::sums::sums_of;
 
-// The largest time, the largest level, and the size of the lowest.
+// The largest time.
 const MOST_TIME: u64 = 4_294_967_295;
-
-const MOST_LEVEL: u64 = 2_147_483_647;
-
-const MOST_BELOW_ZERO: u64 = 2_147_483_648;
 
 // The most places of a list.
 const MOST_PLACES: u64 = 1026;
@@ -43,43 +41,6 @@ pub fn change_lists(mut trial: Trial, levels: &mut [u8], times: &mut [u8]) -> Tr
         _ => trial = clear_lists(trial, levels, times),
     }
     trial
-}
-
-// Whether a level of this size has 32 bits.
-fn level_fits(size: u64, minus: bool) -> bool {
-    if minus {
-        size <= MOST_BELOW_ZERO
-    } else {
-        size <= MOST_LEVEL
-    }
-}
-
-// The level of a size below zero; 0 where it has more than 32 bits.
-fn below_zero(size: u64) -> i32 {
-    if size == 0 {
-        return 0;
-    }
-    if MOST_BELOW_ZERO < size {
-        return 0;
-    }
-    let above = (size - 1) as i32;
-    -1 - above
-}
-
-// The same of a size that is not below zero.
-fn not_below_zero(size: u64) -> i32 {
-    if MOST_LEVEL < size {
-        return 0;
-    }
-    size as i32
-}
-
-fn level_of(size: u64, minus: bool) -> i32 {
-    if minus {
-        below_zero(size)
-    } else {
-        not_below_zero(size)
-    }
 }
 
 // A time; the largest where the number has more than 32 bits.
