@@ -7,6 +7,7 @@ use common::signs::{fresh, Sign};
 use common::{case_1_file, diagonal, directory, refusal, RK};
 use second::sign::{Asked, Report, Reported};
 use second::Refusal;
+use std::collections::BTreeSet;
 
 /// The time of every line's last report, and their level.
 const HEARD_AT: u32 = 1_000;
@@ -255,4 +256,17 @@ fn the_lists_belong_to_the_header() {
     let report = Report { level: 6, time: 1 };
     sign.assert_kept(b"BB", report, Err(refusal(23, 0)));
     sign.assert_kept(b"BC", report, Err(refusal(13, 0)));
+}
+
+/// Every refusal that documents 01 and 02 a) give has words of its own; 20, 21 and 24 are for later requests.
+#[test]
+fn the_refusals_in_words() {
+    let words = |number| refusal(number, 0).explanation();
+    let given: BTreeSet<&str> = (1..=19).chain([22, 23]).map(words).collect();
+    assert_eq!(given.len(), 21);
+    for none in [0, 20, 21, 24, 255] {
+        assert!(!given.contains(words(none)), "{none}");
+    }
+    assert!(words(17).contains("-20,000 to 20,000"));
+    assert!(words(22).contains("1 to 86,400"));
 }
