@@ -23,17 +23,17 @@ use Rattle.sign.specs.declared.Reported.the-variants as told
 use Rattle.sign.specs.declared.Answer.{Answer}
 use Rattle.sign.specs.declared.Answer.the-variants as answer
 use Rattle.sign.specs.Rules.{Report, Question, reportRefusals, askRefusals, judged, answered, limitAllowed}
-use Rattle.sign.specs.RuleSteps.{answered-never, answered-early, answered-fresh, answered-stale, Passes, enter-found}
+use Rattle.sign.specs.RuleSteps.{answered-never, answered-fresh, answered-stale, Passes, enter-found}
 use Rattle.sign.specs.Keeping.{Lists, fits, lastAt, heardAt, kept, cleared}
 use Rattle.sign.specs.KeepingLaws.{fits-room, heard-fits, OwnPlaceAlone, kept-own}
 use Rattle.sign.specs.Calls.{linesIn, checks, entered, onLine, reportOf, afterReport, askOf}
 use Rattle.sign.specs.CallSteps.{line-below, entered-in}
 use Rattle.sign.specs.Refusing.{lookupRefusal, inOrder, reportTable, askTable}
 use Rattle.sign.specs.RefusingLaws.{report-accepted-exactly, ask-judged}
-use Rattle.sign.specs.Trace.{Call, Reply, log, after, signReply, signNext, sign, Map, nothing, mapAsk, mapNext, plain}
+use Rattle.sign.specs.Trace.{Call, log, after, signReply, signNext, sign, Map, nothing, mapAsk, plain}
 use Rattle.sign.specs.Trace.Call.{report, ask}
 use Rattle.sign.specs.Trace.Reply.{reported, asked}
-use Rattle.sign.specs.TraceLaws.{Stands, ask-same, next-stands, log-same, after-stands, cleared-stands}
+use Rattle.sign.specs.TraceLaws.{Stands, ask-same, log-same, after-stands, cleared-stands}
 use Rattle.sign.specs.History.{Entry, accepts, NoneAccepted, LastAccepted}
 use Rattle.sign.specs.HistoryLaws.{lastIn, map-last, last-none, last-is, heard-last, never-none}
 
