@@ -137,7 +137,7 @@
  *
  *     cc -std=c99 -Iinclude examples/calls.c target/staticlib/libdronesickle.a -o calls
  *
- * EXAMPLE (with the list above and 64 weights; examples/calls.c is one that runs, examples/draw_sign.c draws a sign)
+ * EXAMPLE (with the list above and 64 weights; examples/calls.c is one that runs, examples/draw_sign draws a sign)
  *
  *     uint8_t buffer[DS_LONGEST_FILE];
  *     struct ds_answer built = ds_build(run, 6, ends, 3, 2, 4, weights, 64, buffer, sizeof buffer);

@@ -30,31 +30,26 @@ struct sign {
     uint8_t times[DS_BYTES_OF_A_PLACE * DS_MOST_CODES];
 };
 
-/* Why a file does not open, or a call on the sign is refused. */
+/* Why a file does not open, or a report or an ask is refused. */
 static const char *const refusals[] = {
-    [DS_LENGTH] = "it is shorter than 7 bytes, or not as long as its header calls for",
-    [DS_MARK] = "a mark is wrong",
-    [DS_HEADER_NUMBERS] = "the numbers in its header are outside the sizes that are allowed",
-    [DS_VALUE] = "a value is over R, or spare bits are set",
-    [DS_RANK] = "a rank entry is wrong, or the assigned vertices are not as many as the codes",
-    [DS_STORED_CODE] = "a stored code has not 1 to 32 bytes, or what follows it is not zero",
-    [DS_ASTRAY] = "a stored code does not lead to its line",
-    [DS_CODE_ASKED] = "a code has 1 to 32 bytes",
-    [DS_LEVEL] = "the level is not -20000 to 20000 millimetres",
-    [DS_EARLIER] = "the time is before that of the gauge's last report",
-    [DS_NOW_EARLIER] = "now is before the time of the gauge's last report",
-    [DS_LIMIT] = "it must be 1 to 86400 seconds",
-    [DS_LISTS] = "the lists are not as long as the directory has lines",
+    [DS_LENGTH] = "it is shorter than 7 bytes, or not as long as its header calls for (refusal 9)",
+    [DS_MARK] = "a mark is wrong (refusal 10)",
+    [DS_HEADER_NUMBERS] = "the numbers in its header are outside the sizes that are allowed (refusal 11)",
+    [DS_VALUE] = "a value is over R, or spare bits are set (refusal 12)",
+    [DS_RANK] = "a rank entry is wrong, or the assigned vertices are not as many as the codes (refusal 13)",
+    [DS_STORED_CODE] = "a stored code has not 1 to 32 bytes, or what follows it is not zero (refusal 14)",
+    [DS_ASTRAY] = "a stored code does not lead to its line (refusal 15)",
+    [DS_CODE_ASKED] = "a code has 1 to 32 bytes (refusal 16)",
+    [DS_LEVEL] = "the level is not -20000 to 20000 millimetres (refusal 17)",
+    [DS_EARLIER] = "the time is before that of the gauge's last report (refusal 18)",
+    [DS_NOW_EARLIER] = "now is before the time of the gauge's last report (refusal 19)",
+    [DS_LIMIT] = "it must be 1 to 86400 seconds (refusal 22)",
+    [DS_LISTS] = "the lists are not as long as the directory has lines (refusal 23)",
 };
 
 static void tell(const char *name, const char *words)
 {
-    fprintf(stderr, "draw_sign: %s: %s\n", name, words);
-}
-
-static void tell_refused(const char *name, unsigned number, size_t place)
-{
-    fprintf(stderr, "draw_sign: %s: %s (refusal %u, place %zu)\n", name, refusals[number], number, place);
+    fprintf(stderr, "%s: %s\n", name, words);
 }
 
 /* Reads FILE. A byte more than the longest file has is room enough to see that it is too long. */
@@ -68,7 +63,7 @@ static bool read_file(const char *name, struct sign *sign)
     sign->length = fread(sign->file, 1, sizeof sign->file, stream);
     bool read = ferror(stream) == 0;
     if (!read)
-        tell(name, "it cannot be read");
+        tell(name, strerror(errno));
     fclose(stream);
     return read;
 }
@@ -91,27 +86,32 @@ static bool open_sign(const char *name, struct sign *sign)
     struct ds_opened opened = ds_open(sign->file, sign->length);
     sign->n = opened.n;
     clear(sign);
-    if (opened.number != DS_SUCCESS)
-        tell_refused(name, opened.number, opened.place);
-    return opened.number == DS_SUCCESS;
+    if (opened.number == DS_SUCCESS)
+        return true;
+    fprintf(stderr, "%s: %s, place %zu\n", name, refusals[opened.number], opened.place);
+    return false;
 }
 
-/* Brings the report of a line; says why where there is none, or it is not accepted. */
-static void bring(struct sign *sign, const char *where, const char *line, size_t length)
+/* Brings a report. Gives NULL, or in words why it is not accepted. */
+static const char *bring(struct sign *sign, const struct report *report)
+{
+    size_t list = DS_BYTES_OF_A_PLACE * sign->n;
+    struct ds_reported reported = ds_report(sign->file, sign->length, report->code, report->length, report->level,
+                                            report->time, sign->levels, list, sign->times, list);
+    if (reported.kind == DS_UNKNOWN)
+        return "the code is unknown: no gauge of the directory has it";
+    return reported.kind == DS_REFUSED ? refusals[reported.number] : NULL;
+}
+
+/* Brings the report of a line of REPORTS, and tells where there is none or it is not accepted. */
+static void bring_line(struct sign *sign, const char *name, unsigned long line, const char *text, size_t length)
 {
     struct report report;
-    const char *wrong = read_report(line, length, &report);
-    if (wrong != NULL) {
-        tell(where, wrong);
-        return;
-    }
-    size_t list = DS_BYTES_OF_A_PLACE * sign->n;
-    struct ds_reported reported = ds_report(sign->file, sign->length, report.code, report.length, report.level,
-                                            report.time, sign->levels, list, sign->times, list);
-    if (reported.kind == DS_UNKNOWN)
-        tell(where, "the code is unknown: no gauge of the directory has it");
-    if (reported.kind == DS_REFUSED)
-        tell_refused(where, reported.number, reported.place);
+    const char *wrong = read_report(text, length, &report);
+    if (wrong == NULL)
+        wrong = bring(sign, &report);
+    if (wrong != NULL)
+        fprintf(stderr, "%s, line %lu: %s\n", name, line, wrong);
 }
 
 /* Brings all reports of a text. */
@@ -122,18 +122,15 @@ static bool bring_all(struct sign *sign, const char *name)
         tell(name, strerror(errno));
         return false;
     }
-    char *line = NULL;
+    char *text = NULL;
     size_t room = 0;
     ssize_t length;
-    for (unsigned long number = 1; (length = getline(&line, &room, stream)) >= 0; number++) {
-        char where[32];
-        snprintf(where, sizeof where, "line %lu of REPORTS", number);
-        bring(sign, where, line, (size_t)length);
-    }
+    for (unsigned long line = 1; (length = getline(&text, &room, stream)) >= 0; line++)
+        bring_line(sign, name, line, text, (size_t)length);
     bool read = feof(stream) != 0;
     if (!read)
-        tell(name, "it cannot be read");
-    free(line);
+        tell(name, strerror(errno));
+    free(text);
     fclose(stream);
     return read;
 }
@@ -149,7 +146,7 @@ static bool limit_allowed(const struct sign *sign, uint32_t now, uint32_t limit)
 {
     bool allowed = ask(sign, (const uint8_t *)"?", 1, now, limit).number != DS_LIMIT;
     if (!allowed)
-        tell_refused("LIMIT", DS_LIMIT, 0);
+        fprintf(stderr, "LIMIT is %u; %s\n", limit, refusals[DS_LIMIT]);
     return allowed;
 }
 
@@ -180,12 +177,12 @@ static void draw(const struct sign *sign, uint32_t now, uint32_t limit)
     draw_end();
 }
 
-/* A number among the arguments. */
-static bool read_argument(char **arguments, int i, const char *name, uint32_t *number)
+/* The number that an argument stands for. */
+static bool read_argument(const char *name, const char *argument, uint32_t *number)
 {
-    bool read = read_number(arguments[i], strlen(arguments[i]), number);
+    bool read = read_number(argument, strlen(argument), number);
     if (!read)
-        tell(name, "it is not a number of seconds, 0 to 4294967295");
+        fprintf(stderr, "%s is %s; it must be a number from 0 to 4294967295\n", name, argument);
     return read;
 }
 
@@ -197,7 +194,7 @@ int main(int count, char **arguments)
         fprintf(stderr, "usage: draw_sign FILE REPORTS NOW LIMIT > sign.svg\n");
         return 2;
     }
-    if (!read_argument(arguments, NOW, "NOW", &now) || !read_argument(arguments, LIMIT, "LIMIT", &limit))
+    if (!read_argument("NOW", arguments[NOW], &now) || !read_argument("LIMIT", arguments[LIMIT], &limit))
         return 1;
     if (!open_sign(arguments[FILE_NAME], &sign) || !limit_allowed(&sign, now, limit))
         return 1;
@@ -206,6 +203,6 @@ int main(int count, char **arguments)
     draw(&sign, now, limit);
     if (fflush(stdout) == 0 && ferror(stdout) == 0)
         return 0;
-    tell("standard output", "the picture could not be written");
+    tell("standard output", strerror(errno));
     return 1;
 }

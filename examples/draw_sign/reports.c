@@ -92,8 +92,8 @@ const char *read_report(const char *line, size_t length, struct report *report)
     if (!read_code(words[0], report))
         return "its code is not hex: after 0x come pairs of the digits 0 to 9 and a to f";
     if (!read_level(words[1], &report->level))
-        return "its level is not a number of millimetres";
+        return "its level is not a number from -2147483647 to 2147483647";
     if (!read_number(words[2].text, words[2].length, &report->time))
-        return "its time is not a number of seconds, 0 to 4294967295";
+        return "its time is not a number from 0 to 4294967295";
     return NULL;
 }
