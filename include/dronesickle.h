@@ -94,8 +94,8 @@
  * - DS_FRESH means exactly that this code's last accepted report is at most the limit old. The level is its level.
  * - DS_STALE means exactly that this code's last accepted report is older than the limit. The level is its level,
  *   and the age its age.
- * (Exactly: of all that is asked with a code of the file, a limit of 1 to 86,400, lists of 4 * n bytes and a
- * now that is not before that report. Anything else is unknown or refused, as ds_ask says.)
+ * "Exactly" is said of calls with lists of 4 * n bytes, and of asks with a code of the file, a limit of 1 to 86,400
+ * and a now that is not before that report; any other is unknown or refused, as ds_report and ds_ask say.
  * So no report of another code, in the file or not, changes what is answered for a code.
  *
  * ANSWERS
