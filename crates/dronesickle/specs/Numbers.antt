@@ -1,10 +1,13 @@
 -- The answers as C has them: each of the paper's numbers under its name. Assumes nothing.
 use Prim.Native.Nat.{ℕ}
+use lib.IntN.{ℤ}
 use Rattle.directory.specs.declared.Part.{Part}
 use Rattle.dronesickle.specs.declared.DsAnswer.{DsAnswer}
 use Rattle.dronesickle.specs.declared.DsOpened.{DsOpened}
 use Rattle.dronesickle.specs.declared.DsFound.{DsFound}
 use Rattle.dronesickle.specs.declared.DsPart.{DsPart}
+use Rattle.dronesickle.specs.declared.DsReported.{DsReported}
+use Rattle.dronesickle.specs.declared.DsAsked.{DsAsked}
 
 abbrev pub answer : ℕ × ℕ → DsAnswer
 answer (number, place) = record { number = number; place = place }
@@ -17,3 +20,9 @@ found (kind, number, place, line) = record { kind = kind; number = number; place
 
 abbrev pub part : Part → DsPart
 part p = record { start = p .start; length = p .size }
+
+abbrev pub reported : ℕ × ℕ × ℕ × ℕ → DsReported
+reported (kind, number, place, line) = record { kind = kind; number = number; place = place; line = line }
+
+abbrev pub asked : ℕ × ℕ × ℕ × ℤ × ℕ → DsAsked
+asked (kind, number, place, level, age) = record { kind = kind; number = number; place = place; level = level; age = age }
