@@ -58,7 +58,7 @@ module _ (f : List ℕ) where
     way-same : (code : List ℕ) (limited : Bool) → entered f code limited (fits (linesIn f) S) ≡ entered f code limited true
     way-same code limited = ap (entered f code limited) (s .fitting)
 
-    report-same : (q : Report) → reportOf f q S ≡ mapReport f q M
+    pub report-same : (q : Report) → reportOf f q S ≡ mapReport f q M
     unfolding reportOf mapReport
     report-same q =
         rw (way-same (q .code) true)
