@@ -1,21 +1,18 @@
 -- The lists keep the last reports: what is kept at a line is what was put there, other lines stay, and cleared lists were never heard. Assumes nothing.
-use mathlib.Core.Path.{_≡_, refl, sym, ap, _∙_}
+use mathlib.Core.Path.{_≡_, refl}
 use mathlib.Core.Logic.{_≢_}
-use mathlib.Core.Bool.{Bool, true, false, cond, _&&_}
-use mathlib.Core.List.{List}
-use Prim.Native.Nat.{ℕ, _+_, _*_, _/_, _≤_, _<_}
+use mathlib.Core.Bool.{Bool, true, false, _&&_}
+use Prim.Native.Nat.{ℕ, _/_, _<_}
 use native.Mathlib.Omega.{arith}
-use borrow.Author.Tests.{eqb-true, eq-eqb, ltb-true}
-use lib.Dec.{eqb}
+use borrow.Author.Tests.{eqb-true, eq-eqb, ltb-true, lt-ltb}
 use lib.IntN.{ℤ, pos}
-use lib.ListN.{length}
+use lib.ListN.{length, getD}
 use Rattle.counting.specs.TestLaws.{and-left, and-right, and-both}
-use Rattle.sign.specs.declared.Last.{Last}
 use Rattle.sign.specs.declared.Last.the-variants.{NeverHeard, Heard}
-use Rattle.sign.specs.Levels.{inRange, twos, fromTwos}
+use Rattle.sign.specs.Levels.{inRange, twos}
 use Rattle.sign.specs.LevelLaws.{level-back, range-bits}
 use Rattle.sign.specs.Places.{placeBytes, placeAt, numberAt, filled}
-use Rattle.sign.specs.PlaceLaws.{length-with, number-same, number-other, length-filled, number-filled}
+use Rattle.sign.specs.PlaceLaws.{length-with, byte-stays, number-same, number-other, length-filled, number-filled}
 use Rattle.sign.specs.Rules.{lastOf}
 use Rattle.sign.specs.Keeping.{Lists, longEnough, fits, Room, lastAt, hasPlace, heardAt, keep, cleared}
 
@@ -63,6 +60,12 @@ module _ (S : Lists) (line : ℕ) where
   unfolding heardAt
   heard-nowhere h = rw h
 
+  -- lists that fit have every line's
+  pub heard-fits : (n : ℕ) → fits n S ≡ true → line < n → heardAt S line ≡ lastAt S line
+  heard-fits n h l =
+      let w = fits-long n S h in
+      heard-there (and-both (lt-ltb line (length (S .levels) / placeBytes) (omega (arith, w .0))) (lt-ltb line (length (S .times) / placeBytes) (omega (arith, w .1))))
+
 -- ---- what is kept
 
 module _ (S : Lists) (line : ℕ) (level : ℤ) (time : ℕ) where
@@ -78,6 +81,27 @@ module _ (S : Lists) (line : ℕ) (level : ℤ) (time : ℕ) where
   pub kept-other : (other : ℕ) → other ≢ line → lastAt (keep S line level time) other ≡ lastAt S other
   unfolding lastAt keep
   kept-other other d = rw (number-other (S .levels) line (twos level) other d, number-other (S .times) line time other d)
+
+  -- no byte of another place changes, nor the length of a list
+  pub record OwnPlaceAlone (after : Lists) : Type 0 where
+    pub levelThere : numberAt (after .levels) line ≡ twos level
+    pub timeThere : numberAt (after .times) line ≡ time
+    pub otherLevels : (i : ℕ) → i / placeBytes ≢ line → getD (after .levels) i 0 ≡ getD (S .levels) i 0
+    pub otherTimes : (i : ℕ) → i / placeBytes ≢ line → getD (after .times) i 0 ≡ getD (S .times) i 0
+    pub asManyLevels : length (after .levels) ≡ length (S .levels)
+    pub asManyTimes : length (after .times) ≡ length (S .times)
+
+  pub kept-own : Room line (S .levels) (S .times) → OwnPlaceAlone (keep S line level time)
+  unfolding keep
+  kept-own room =
+      record {
+        levelThere = number-same (S .levels) line (twos level) (room .0);
+        timeThere = number-same (S .times) line time (room .1);
+        otherLevels = byte-stays (S .levels) line (twos level);
+        otherTimes = byte-stays (S .times) line time;
+        asManyLevels = length-with (S .levels) line (twos level);
+        asManyTimes = length-with (S .times) line time;
+      }
 
 -- ---- cleared lists
 

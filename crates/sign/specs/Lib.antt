@@ -9,3 +9,13 @@ pub mod Calls
 pub mod Answers
 pub mod RuleSteps
 pub mod CallSteps
+pub mod Trace
+pub mod TraceLaws
+pub mod History
+pub mod HistoryLaws
+pub mod Refusing
+pub mod RefusingLaws
+pub mod AnyListsLaws
+pub mod RuleLaws
+pub mod PromiseLaws
+pub mod Promises
