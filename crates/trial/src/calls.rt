@@ -11,10 +11,10 @@ use crate::digits::NO_DIGIT;
 use crate::held::beginning;
 use crate::held::count_up;
 use crate::held::first_of;
+use crate::held::resize;
 use crate::reading::Trial;
 use crate::signs::call_sign;
 use crate::signs::change_lists;
-use crate::sizing::resize;
 use crate::sums::sums_of;
 
 // The largest number of one byte.

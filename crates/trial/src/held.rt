@@ -1,4 +1,5 @@
 // What vectors hold, each in a buffer with a length of its own: the bytes of the file under trial, of the code that is asked for and of the run; the ends and the weights; the sign's lists.
+use crate::answers::write_bad;
 ghost use mathlib.Core.Path.{_≡_};
 ghost use lib.ListN.{length};
 
@@ -51,6 +52,17 @@ pub fn clear(buffer: &mut [u8], from: usize, to: usize) {
         put(buffer, at, 0);
         at += 1;
     }
+}
+
+// Cuts bytes, or lengthens them with zeros; their length is given back.
+pub fn resize(length: usize, wanted: u64, bytes: &mut [u8]) -> usize {
+    let to = wanted as usize;
+    if bytes.len() < to {
+        write_bad();
+        return length;
+    }
+    clear(bytes, length, to);
+    to
 }
 
 // The next byte; after the largest comes 0.

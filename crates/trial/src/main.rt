@@ -3,7 +3,6 @@ mod digits; // digits.rt: digits, and numbers made of them
 mod levels; // levels.rt: levels as they are written
 mod held; // held.rt: what vectors hold
 mod reading; // reading.rt: vectors, byte by byte
-mod sizing; // sizing.rt: lengths of what is held
 mod signs; // signs.rt: what vectors of the sign ask for
 mod calls; // calls.rt: what vectors ask for
 mod sums; // sums.rt: checksums of a buffer

@@ -6,10 +6,10 @@ use crate::held::PLACE_BYTES;
 use crate::held::beginning;
 use crate::held::clear;
 use crate::held::clear_levels;
+use crate::held::resize;
 use crate::levels::level_fits;
 use crate::levels::level_of;
 use crate::reading::Trial;
-use crate::sizing::resize;
 use crate::sums::sums_of;
 
 // The largest time.
