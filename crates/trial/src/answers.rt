@@ -150,6 +150,7 @@ fn write_group(group: RefusalGroup) {
         RefusalGroup::Building => write(b"group building"),
         RefusalGroup::Opening => write(b"group opening"),
         RefusalGroup::LookingUp => write(b"group looking-up"),
+        RefusalGroup::Sign => write(b"group sign"),
         RefusalGroup::NoRefusal => write(b"group none"),
     }
 }

@@ -71,6 +71,7 @@ pub fn grouped(number: u8) -> String {
         Group::Building => "building",
         Group::Opening => "opening",
         Group::LookingUp => "looking-up",
+        Group::Sign => "sign",
         Group::None => "none",
     };
     let meaning = match meaning(number) {
