@@ -1,5 +1,5 @@
 /* The calls of include/dronesickle.h from C: document 01's cases, every refusal at its places, files from
- * elsewhere, round trips. Everything is tried twice, with what is lent against the guarded page after it and
+ * elsewhere, round trips, signs. Everything is tried twice, with what is lent against the guarded page after it and
  * against the one before it. The first check that is wrong ends the test with words and status 1. */
 #include "calls.h"
 
@@ -15,6 +15,11 @@ static void try_all(enum side side)
     try_looking_up();
     try_showing();
     try_round_trips();
+    try_sign();
+    try_sign_lists();
+    try_sign_refusals();
+    try_sign_order();
+    try_sign_traces();
 }
 
 int main(void)

@@ -76,6 +76,11 @@ void put_key(struct file *file, const void *code, size_t length);
 /* Document 01's case 1 as a file, by hand. It is the same object each time. */
 struct file *case_1_file(void);
 
+/* r = 2, v = 100 with the codes 0A05 and 5A06, whose vertices are 10, 105 and 90, 106. They land on 10 and 90 and have
+ * the lines 0 and 1. It is the same object each time; its rank entries stand after HD, WT, GV and the RK mark. */
+struct file *two_codes_file(void);
+enum { TWO_CODES_RANK = 7 + 2 + 128 + 2 + 50 + 2 };
+
 /* Where the records of case 1's file stand: HD has 7 bytes, WT 2 + 128, GV 2 + 2, RK 2 + 2, and each KY 35, so
  * that the four of them end at 285. */
 enum { WT = 7, GV = 137, RK = 141, KY = 145, KY_BYTES = 35, CASE_1_LENGTH = 285 };
@@ -86,6 +91,19 @@ enum { WT = 7, GV = 137, RK = 141, KY = 145, KY_BYTES = 35, CASE_1_LENGTH = 285 
 enum side { AGAINST_THE_PAGE_AFTER, AGAINST_THE_PAGE_BEFORE };
 
 void lend_from(enum side side);
+
+/* What is lent, each in an area of its own. */
+enum slice { RUN, ENDS, WEIGHTS, BUFFER, FILE_BYTES, CODE, LEVELS, TIMES, SLICES };
+
+/* Lends a copy of some bytes, to be read alone. */
+const void *lend(enum slice slice, const void *bytes, size_t size);
+
+/* Lends a coloured slice, to be written. */
+uint8_t *lend_coloured(enum slice slice, size_t size);
+
+/* Whether the area still has its colours before such a slice, and after the first so many bytes of it. */
+bool coloured_before(enum slice slice, size_t size);
+bool coloured_after(enum slice slice, size_t size, size_t written);
 
 /* Builds, and copies the whole buffer to the file as the build left it. Its length is that of the file on
  * success, else of the buffer. Checks that no byte but the file's has changed. */
@@ -116,15 +134,74 @@ void expect_nothing_shown(const struct file *file, size_t line);
 /* That the file has just these bytes. */
 void expect_same(const struct file *given, const struct file *right);
 
+/* ---- signs.c: signs, and reports and asks with the answers they must give ---- */
+
+enum { MOST_OF_A_LIST = DS_BYTES_OF_A_PLACE * (DS_MOST_CODES + 2) };
+
+/* A file, and the lists of its sign as they are lent. */
+struct sign {
+    const struct file *file;
+    uint8_t levels[MOST_OF_A_LIST];
+    size_t levels_len;
+    uint8_t times[MOST_OF_A_LIST];
+    size_t times_len;
+};
+
+/* A report that is brought. */
+struct report {
+    const void *code;
+    size_t length;
+    int32_t level;
+    uint32_t time;
+};
+
+/* What is asked. */
+struct ask {
+    const void *code;
+    size_t length;
+    uint32_t now, limit;
+};
+
+/* Lists of n places for a file, as document 02 has them cleared: 30,000 as every level and 0 as every time. */
+void clear(struct sign *sign, const struct file *file, size_t n);
+
+/* Writes a line's places by hand, whatever the numbers are. */
+void put_places(struct sign *sign, size_t line, int32_t level, uint32_t time);
+
+/* Reports, and takes the lists back. Checks that an accepted report changed its line's places to its level and time
+ * and no other byte, and any other report none. */
+struct ds_reported call_report(struct sign *sign, struct report report);
+
+/* Asks, with lists that cannot be written. */
+struct ds_asked call_ask(const struct sign *sign, struct ask ask);
+
+void expect_accepted(struct sign *sign, struct report report, size_t line);
+void expect_stranger(struct sign *sign, struct report report);
+void expect_report_refused(struct sign *sign, struct report report, unsigned number, size_t place);
+void expect_never(const struct sign *sign, struct ask ask);
+void expect_fresh(const struct sign *sign, struct ask ask, int32_t level);
+void expect_stale(const struct sign *sign, struct ask ask, int32_t level, uint32_t age);
+void expect_asked_stranger(const struct sign *sign, struct ask ask);
+void expect_ask_refused(const struct sign *sign, struct ask ask, unsigned number, size_t place);
+
+/* That two answers are the same in every field. */
+void expect_reported(struct ds_reported given, struct ds_reported right);
+void expect_asked(struct ds_asked given, struct ds_asked right);
+
 /* ---- the subjects ---- */
 
-void try_layout(void);      /* layout.c: structs, constants and lengths */
-void try_cases(void);       /* cases.c: document 01's cases 1 to 12 */
-void try_building(void);    /* building.c: refusals 1 to 8 */
-void try_opening(void);     /* opening.c: refusals 9 to 15, and files from elsewhere */
-void try_looking_up(void);  /* looking_up.c: lookup's refusals, and what a lookup passes over */
-void try_showing(void);     /* showing.c: where a line's code stands */
-void try_round_trips(void); /* round_trips.c: build, open, every code, every line */
-void try_stack(void);       /* stack.c: how much stack the calls take */
+void try_layout(void);        /* layout.c: structs, constants and lengths */
+void try_cases(void);         /* cases.c: document 01's cases 1 to 12 */
+void try_building(void);      /* building.c: refusals 1 to 8 */
+void try_opening(void);       /* opening.c: refusals 9 to 15, and files from elsewhere */
+void try_looking_up(void);    /* looking_up.c: lookup's refusals, and what a lookup passes over */
+void try_showing(void);       /* showing.c: where a line's code stands */
+void try_round_trips(void);   /* round_trips.c: build, open, every code, every line */
+void try_sign(void);          /* sign.c: what reports leave in the lists, and what asking gives */
+void try_sign_lists(void);    /* sign_lists.c: lists of any length and at any place, and a small sign */
+void try_sign_refusals(void); /* sign_refusals.c: refusals 17, 18, 19, 22 and 23 */
+void try_sign_order(void);    /* sign_order.c: which of two faults is given */
+void try_sign_traces(void);   /* sign_traces.c: long runs of calls against a plain map from code to last report */
+void try_stack(void);         /* stack.c: how much stack the calls take */
 
 #endif

@@ -65,3 +65,19 @@ struct file *case_1_file(void)
     put_key(&file, "BC", 2);
     return &file;
 }
+
+struct file *two_codes_file(void)
+{
+    static struct file file;
+    char values[50];
+    memset(values, 0xAA, sizeof values);
+    values[10 / 4] = (char)0x8A;
+    values[90 / 4] = (char)0x8A;
+    put_header(&file, 2, 2, 100);
+    put_weights(&file, list_of(2, 100, ""));
+    put_values(&file, values, sizeof values);
+    put_rank(&file, 4, (const unsigned[]){0, 1, 2, 2});
+    put_key(&file, "\x0A\x05", 2);
+    put_key(&file, "\x5A\x06", 2);
+    return &file;
+}

@@ -15,8 +15,29 @@ static void try_structs(void)
               offsetof(struct ds_found, number) == 4 && offsetof(struct ds_found, place) == 8 &&
               offsetof(struct ds_found, line) == 16,
           "ds_found");
+    check(sizeof(struct ds_reported) == 24 && offsetof(struct ds_reported, kind) == 0 &&
+              offsetof(struct ds_reported, number) == 4 && offsetof(struct ds_reported, place) == 8 &&
+              offsetof(struct ds_reported, line) == 16,
+          "ds_reported");
+    check(sizeof(struct ds_asked) == 24 && offsetof(struct ds_asked, kind) == 0 &&
+              offsetof(struct ds_asked, number) == 4 && offsetof(struct ds_asked, place) == 8 &&
+              offsetof(struct ds_asked, level) == 16 && offsetof(struct ds_asked, age) == 20,
+          "ds_asked");
     check(sizeof(struct ds_part) == 16 && offsetof(struct ds_part, start) == 0 && offsetof(struct ds_part, length) == 8,
           "ds_part");
+}
+
+/* Document 02's numbers, and a number of its own for each kind. */
+static void try_numbers(void)
+{
+    about("the numbers of the sign");
+    check(DS_LOWEST_LEVEL == -20000 && DS_HIGHEST_LEVEL == 20000 && DS_NEVER_HEARD == 30000, "the levels");
+    check(DS_LONGEST_LIMIT == 86400 && DS_BYTES_OF_A_PLACE == 4, "the limit, and the bytes of a place");
+    check(DS_LEVEL == 17 && DS_EARLIER == 18 && DS_NOW_EARLIER == 19 && DS_LIMIT == 22 && DS_LISTS == 23,
+          "the refusals");
+    check(DS_AT == 0 && DS_UNKNOWN == 1 && DS_REFUSED == 2 && DS_ACCEPTED == 3 && DS_NEVER == 4 && DS_FRESH == 5 &&
+              DS_STALE == 6,
+          "the kinds");
 }
 
 static void expect_length(size_t n, size_t r, size_t v, size_t right)
@@ -64,6 +85,7 @@ static void try_lengths_outside(void)
 void try_layout(void)
 {
     try_structs();
+    try_numbers();
     try_lengths();
     try_lengths_outside();
 }

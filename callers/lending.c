@@ -11,13 +11,12 @@
 #include <sys/wait.h>
 #include <unistd.h>
 
-enum slice { RUN, ENDS, WEIGHTS, BUFFER, FILE_BYTES, CODE, SLICES };
-
 /* STEP is a multiple of every size that pages have; an area has ROOM bytes, and STEP that are guarded on each
  * side of it. */
 enum { STEP = 65536, ROOM = 2 * STEP, GUARDED = STEP + ROOM + STEP };
 
 static uint8_t *areas[SLICES];
+static uint8_t colours[ROOM];
 static enum side side;
 
 static void protect(enum slice slice, int protection)
@@ -44,11 +43,19 @@ static uint8_t *new_area(void)
     return start + STEP - (uintptr_t)start % STEP + STEP;
 }
 
+/* Bytes that are neither all zero nor like their neighbours, so that a change among them shows. */
+static void choose_colours(void)
+{
+    for (size_t offset = 0; offset < ROOM; offset++)
+        colours[offset] = (uint8_t)(offset % 251) ^ 0xA5;
+}
+
 void lend_from(enum side new_side)
 {
     side = new_side;
     if (areas[0] != NULL)
         return;
+    choose_colours();
     for (enum slice slice = 0; slice < SLICES; slice++)
         areas[slice] = new_area();
     struct sigaction action = {.sa_handler = touched};
@@ -61,8 +68,7 @@ static uint8_t *place(enum slice slice, size_t size)
     return side == AGAINST_THE_PAGE_AFTER ? areas[slice] + ROOM - size : areas[slice];
 }
 
-/* Lends a copy of some bytes, to be read alone. */
-static const void *lend(enum slice slice, const void *bytes, size_t size)
+const void *lend(enum slice slice, const void *bytes, size_t size)
 {
     protect(slice, PROT_READ | PROT_WRITE);
     memcpy(place(slice, size), bytes, size);
@@ -70,27 +76,27 @@ static const void *lend(enum slice slice, const void *bytes, size_t size)
     return place(slice, size);
 }
 
-/* Bytes that are neither all zero nor like their neighbours, so that a change among them shows. */
-static uint8_t colour(size_t offset)
+uint8_t *lend_coloured(enum slice slice, size_t size)
 {
-    return (uint8_t)(offset % 251) ^ 0xA5;
+    protect(slice, PROT_READ | PROT_WRITE);
+    memcpy(areas[slice], colours, ROOM);
+    return place(slice, size);
 }
 
-/* Lends a coloured buffer, to be written. */
-static uint8_t *lend_coloured(size_t size)
+/* Whether an area has its colours from one offset to another. */
+static bool coloured(enum slice slice, size_t from, size_t to)
 {
-    protect(BUFFER, PROT_READ | PROT_WRITE);
-    for (size_t offset = 0; offset < ROOM; offset++)
-        areas[BUFFER][offset] = colour(offset);
-    return place(BUFFER, size);
+    return memcmp(areas[slice] + from, colours + from, to - from) == 0;
 }
 
-/* Whether the buffer's area has its colour from one offset to another. */
-static bool coloured(size_t from, size_t to)
+bool coloured_before(enum slice slice, size_t size)
 {
-    while (from < to && areas[BUFFER][from] == colour(from))
-        from++;
-    return from == to;
+    return coloured(slice, 0, (size_t)(place(slice, size) - areas[slice]));
+}
+
+bool coloured_after(enum slice slice, size_t size, size_t written)
+{
+    return coloured(slice, (size_t)(place(slice, size) - areas[slice]) + written, ROOM);
 }
 
 struct ds_answer call_build(const struct list *list, struct file *file)
@@ -98,14 +104,14 @@ struct ds_answer call_build(const struct list *list, struct file *file)
     const uint8_t *run = lend(RUN, list->run, list->run_len);
     const uint16_t *ends = lend(ENDS, list->ends, list->n * sizeof *list->ends);
     const uint16_t *weights = lend(WEIGHTS, list->weights, list->weights_len * sizeof *list->weights);
-    uint8_t *buffer = lend_coloured(list->room);
+    uint8_t *buffer = lend_coloured(BUFFER, list->room);
     struct ds_answer answer =
         ds_build(run, list->run_len, ends, list->n, list->r, list->v, weights, list->weights_len, buffer, list->room);
     bool built = answer.number == DS_SUCCESS;
     size_t written = built ? ds_length(list->n, list->r, list->v) : 0;
-    size_t start = (size_t)(buffer - areas[BUFFER]);
-    check(coloured(0, start), "a byte before the buffer has changed");
-    check(coloured(start + written, ROOM), built ? "a byte after the file has changed" : "a refused build wrote");
+    check(coloured_before(BUFFER, list->room), "a byte before the buffer has changed");
+    check(coloured_after(BUFFER, list->room, written),
+          built ? "a byte after the file has changed" : "a refused build wrote");
     memcpy(file->bytes, buffer, list->room);
     file->length = built ? written : list->room;
     return answer;

@@ -1,8 +1,6 @@
 /* Looking up: the refusals in their order, what a lookup passes over, and codes that are near to a listed one. */
 #include "calls.h"
 
-#include <string.h>
-
 static const uint8_t long_code[256] = "BA";
 
 /* Everything that opening would refuse first, too. */
@@ -38,43 +36,25 @@ static void try_codes_asked(void)
     expect_lookup_refused(file, long_code, 0, DS_LENGTH, 0);
 }
 
-/* r = 2, v = 100 with the codes 0A05 and 5A06, whose vertices are 10, 105 and 90, 106. They land on 10 and 90. */
-static struct file *two_codes_file(void)
-{
-    static struct file file;
-    char values[50];
-    memset(values, 0xAA, sizeof values);
-    values[10 / 4] = (char)0x8A;
-    values[90 / 4] = (char)0x8A;
-    put_header(&file, 2, 2, 100);
-    put_weights(&file, list_of(2, 100, ""));
-    put_values(&file, values, sizeof values);
-    put_rank(&file, 4, (const unsigned[]){0, 1, 2, 2});
-    put_key(&file, "\x0A\x05", 2);
-    put_key(&file, "\x5A\x06", 2);
-    return &file;
-}
-
 static void try_rank_entries(void)
 {
-    enum { ENTRIES = 7 + 2 + 128 + 2 + 50 + 2 };
     about("refusal 13 at a lookup");
     struct file *file = two_codes_file();
     expect_opened(file, 2, 2, 100);
     expect_at(file, "\x0A\x05", 2, 0);
     expect_at(file, "\x5A\x06", 2, 1);
-    file->bytes[ENTRIES + 2] = 2;
+    file->bytes[TWO_CODES_RANK + 2] = 2;
     expect_at(file, "\x0A\x05", 2, 0);
     expect_lookup_refused(file, "\x5A\x06", 2, DS_RANK, 1);
     expect_lookup_refused(file, long_code, 33, DS_CODE_ASKED, 0);
     file = two_codes_file();
-    file->bytes[ENTRIES] = 0xFF;
-    file->bytes[ENTRIES + 1] = 0xFF;
+    file->bytes[TWO_CODES_RANK] = 0xFF;
+    file->bytes[TWO_CODES_RANK + 1] = 0xFF;
     expect_lookup_refused(file, "\x0A\x05", 2, DS_RANK, 0);
     expect_at(file, "\x5A\x06", 2, 1);
     about("a rank entry that leads to another code's line");
     file = two_codes_file();
-    file->bytes[ENTRIES] = 1;
+    file->bytes[TWO_CODES_RANK] = 1;
     expect_unknown(file, "\x0A\x05", 2);
 }
 

@@ -20,6 +20,10 @@ enum { STACK = 1024 * 1024, COLOUR = 0xA5 };
 static const struct list *list;
 static struct file file;
 
+/* The lists of its sign. */
+static uint8_t levels[DS_BYTES_OF_A_PLACE * DS_MOST_CODES];
+static uint8_t times[DS_BYTES_OF_A_PLACE * DS_MOST_CODES];
+
 static void *nothing(void *unused)
 {
     ds_length(0, 2, 1);
@@ -48,6 +52,18 @@ static void *look_up(void *unused)
 static void *show(void *unused)
 {
     ds_show(file.bytes, list->room, 0);
+    return unused;
+}
+
+static void *report(void *unused)
+{
+    ds_report(file.bytes, list->room, list->run, 2, 1250, 2, levels, sizeof levels, times, sizeof times);
+    return unused;
+}
+
+static void *ask(void *unused)
+{
+    ds_ask(file.bytes, list->room, list->run, 2, 2, 1, levels, sizeof levels, times, sizeof times);
     return unused;
 }
 
@@ -85,5 +101,8 @@ void try_stack(void)
     expect_at_most(open_it, "ds_open", STACK_OF_OTHERS);
     expect_at_most(look_up, "ds_lookup", STACK_OF_OTHERS);
     expect_at_most(show, "ds_show", STACK_OF_OTHERS);
+    expect_at_most(report, "ds_report", STACK_OF_OTHERS);
+    expect_at_most(ask, "ds_ask", STACK_OF_OTHERS);
     check(ds_open(file.bytes, list->room).n == DS_MOST_CODES, "the file of the thread does not open");
+    check(times[0] == 2, "the report of the thread was not accepted");
 }

@@ -1,5 +1,5 @@
-/* The calls from C, each once: builds the directory of a small club's gauges, opens it, looks codes up and shows
- * the lines. include/dronesickle.h says what each call takes and gives.
+/* The calls from C, each of them: builds the directory of a small club's gauges, opens it, looks codes up, shows the
+ * lines, brings reports and asks for them. include/dronesickle.h says what each call takes and gives.
  *
  *     rt staticlib dronesickle
  *     cc -std=c99 -Iinclude examples/calls.c target/staticlib/libdronesickle.a -o calls && ./calls
@@ -19,6 +19,10 @@ static uint8_t run[N * DS_LONGEST_CODE];
 static uint16_t ends[N];
 static uint16_t weights[WEIGHTS];
 static uint8_t buffer[DS_LONGEST_FILE];
+
+/* The sign: a place for each line in each of two lists. */
+static uint8_t levels[DS_BYTES_OF_A_PLACE * N];
+static uint8_t times[DS_BYTES_OF_A_PLACE * N];
 
 static size_t put_codes(void)
 {
@@ -64,6 +68,68 @@ static void look_up(size_t length, const char *code)
         printf("`%s` is refused: %u, place %zu\n", code, found.number, found.place);
 }
 
+/* DS_NEVER_HEARD as every level, 0 as every time. */
+static void clear(void)
+{
+    memset(levels, 0, sizeof levels);
+    memset(times, 0, sizeof times);
+    for (size_t line = 0; line < N; line++) {
+        levels[DS_BYTES_OF_A_PLACE * line] = DS_NEVER_HEARD % 256;
+        levels[DS_BYTES_OF_A_PLACE * line + 1] = DS_NEVER_HEARD / 256;
+    }
+}
+
+static void report(size_t length, const char *code, int32_t level, uint32_t time)
+{
+    struct ds_reported reported = ds_report(buffer, length, (const uint8_t *)code, strlen(code), level, time, levels,
+                                            sizeof levels, times, sizeof times);
+    printf("%s reports %d at %u: ", code, level, time);
+    if (reported.kind == DS_ACCEPTED)
+        printf("accepted, line %zu\n", reported.line);
+    else if (reported.kind == DS_UNKNOWN)
+        printf("unknown\n");
+    else
+        printf("refused, %u\n", reported.number);
+}
+
+static void ask(size_t length, const char *code, uint32_t now, uint32_t limit)
+{
+    struct ds_asked asked = ds_ask(buffer, length, (const uint8_t *)code, strlen(code), now, limit, levels,
+                                   sizeof levels, times, sizeof times);
+    printf("%s at %u: ", code, now);
+    if (asked.kind == DS_NEVER)
+        printf("never heard\n");
+    else if (asked.kind == DS_FRESH)
+        printf("%d, fresh\n", asked.level);
+    else if (asked.kind == DS_STALE)
+        printf("%d, stale, %u seconds old\n", asked.level, asked.age);
+    else if (asked.kind == DS_UNKNOWN)
+        printf("unknown\n");
+    else
+        printf("refused, %u\n", asked.number);
+}
+
+/* A sign with a limit of an hour. */
+static void show_reports(size_t length)
+{
+    enum { HOUR = 3600 };
+    clear();
+    report(length, "MILL", 1250, 1000);
+    report(length, "LOCK", -340, 1000);
+    report(length, "LOCK", -310, 1000);
+    report(length, "MILL", 1180, 999);
+    report(length, "FERRY", 20001, 1000);
+    report(length, "FERY", 900, 1000);
+    report(length, "MILL", 1265, 4000);
+    ask(length, "MILL", 4601, HOUR);
+    ask(length, "LOCK", 4600, HOUR);
+    ask(length, "LOCK", 4601, HOUR);
+    ask(length, "FERRY", 4601, HOUR);
+    ask(length, "FERY", 4601, HOUR);
+    ask(length, "MILL", 3999, HOUR);
+    ask(length, "MILL", 4601, 0);
+}
+
 int main(void)
 {
     struct ds_answer built = build();
@@ -82,5 +148,6 @@ int main(void)
         struct ds_part part = ds_show(buffer, length, line);
         printf("line %zu shows %.*s\n", line, (int)part.length, (const char *)buffer + part.start);
     }
+    show_reports(length);
     return 0;
 }

@@ -1,4 +1,4 @@
-/* dronesickle.h: code directories, for callers in C (C99 on) and C++ (C++11 on).
+/* dronesickle.h: code directories and the sign that stands on them, for callers in C (C99 on) and C++ (C++11 on).
  *
  * WHAT A DIRECTORY IS
  *
@@ -57,6 +57,47 @@
  *     RK   ceil(r * v / 64) rank entries, 2 bytes each
  *     KY   one record for each line: the length of its code (1), and 32 bytes, 0 after the code
  *
+ * THE SIGN
+ *
+ * A sign has the lines of a directory, and keeps the last report of each. ds_report brings a code, a level in
+ * millimetres, -20,000 to 20,000 and below zero at low water, and a time in seconds, any number of 32 bits.
+ * ds_ask brings a code, the time now and a limit, 1 to 86,400 seconds. It answers that the code's line was never
+ * heard; or fresh, with the level; or stale, with the level and the age. The age is now less the time of
+ * the last report, and fresh is an age of at most the limit. What the seconds are counted from is the caller's
+ * matter, as long as it is the same in all calls.
+ *
+ * The sign lies in two lists of bytes, levels and times, which the caller keeps and lends to every call. A
+ * list has one place for each line and four bytes for each place, 4 * n in all, not one more or fewer: bytes
+ * 4*k to 4*k + 3 are the place of line k. The low byte is first, and levels are in two's complement:
+ *
+ *     1,250 is E2 04 00 00        -340 is AC FE FF FF        30,000 is 30 75 00 00        (hex)
+ *
+ * A stored level outside -20,000 to 20,000 means that the line was never heard; its time then means nothing.
+ * A sign starts cleared, with 30,000 as every level and 0 as every time. No call clears the lists. These lines
+ * do, with the n that ds_open gives:
+ *
+ *     memset(levels, 0, DS_BYTES_OF_A_PLACE * n);
+ *     memset(times, 0, DS_BYTES_OF_A_PLACE * n);
+ *     for (size_t line = 0; line < n; line++) {
+ *         levels[DS_BYTES_OF_A_PLACE * line] = DS_NEVER_HEARD % 256;
+ *         levels[DS_BYTES_OF_A_PLACE * line + 1] = DS_NEVER_HEARD / 256;
+ *     }
+ *
+ * WHAT THE SIGN PROMISES
+ *
+ * Say that the lists were cleared, that every call is lent one and the same file, which opens, and that nothing
+ * but ds_report writes to the lists. Then, after any calls, refused ones and unknown codes among them, the answers
+ * are those of a plain map from code to last accepted report:
+ * - A report is accepted exactly if its code is in the file, its level is -20,000 to 20,000, and its time is not
+ *   before that of the code's last accepted report, where there is one. An equal time replaces.
+ * - DS_NEVER means exactly that no report of this code was ever accepted.
+ * - DS_FRESH means exactly that this code's last accepted report is at most the limit old. The level is its level.
+ * - DS_STALE means exactly that this code's last accepted report is older than the limit. The level is its level,
+ *   and the age its age.
+ * "Exactly" is said of calls with lists of 4 * n bytes, and of asks with a code of the file, a limit of 1 to 86,400
+ * and a now that is not before that report; any other is unknown or refused, as ds_report and ds_ask say.
+ * So no report of another code, in the file or not, changes what is answered for a code.
+ *
  * ANSWERS
  *
  * Every call comes back, whatever the bytes and numbers are that it is lent. It looks at its input in
@@ -66,11 +107,14 @@
  *
  * WHAT NO CALL DOES
  *
- * - Write anything but the buffer of a build that succeeds. A refused build has changed no byte of it.
+ * - Write anything but the buffer of a build that succeeds and, in each list, the one place of a report that is
+ *   accepted. A refused build has changed no byte of the buffer, a refused or unknown report no byte of the lists.
  * - Read anything but the bytes, ends and weights that it is lent.
- * - Keep anything: no pointer is held after the call, and there is nothing to free or to close.
+ * - Keep anything: no pointer is held after the call, and there is nothing to free or to close. The sign is in the
+ *   caller's lists and nowhere else.
  * - Allocate, open, print, lock, or look at the locale, errno or any other state. So threads may call at will,
- *   on the same file too, as long as nobody writes to what is lent to a call before it comes back.
+ *   on the same file too, as long as nobody writes to what is lent to a call before it comes back. ds_report
+ *   writes to its lists: while it does, no other call may be lent them.
  *
  * WHAT THE CALLER SEES TO
  *
@@ -78,10 +122,13 @@
  * - Each pointer is valid for the length that goes with it. It is never NULL, also where the length is 0:
  *   then it points to any object of its type, or one past it.
  * - ends and weights are aligned as uint16_t is.
- * - buffer does not overlap run, ends or weights. All other slices may overlap: a code that is looked up
- *   may lie in the file, as ds_show gives it.
+ * - In ds_build, buffer does not overlap run, ends or weights. In ds_report, levels and times overlap neither
+ *   each other nor the file or the code. All other slices may overlap: a code may lie in the file, as ds_show
+ *   gives it, and all that is lent to ds_ask may overlap.
  * - There is stack. ds_build needs some 39 KB of it, whatever the list is: 39,040 bytes for its arrays, a
  *   little for the rest, and what memset and memcpy take. Leave it 48 KB. The others need less than 1 KB.
+ * And this one, which is not undefined but takes away what the sign promises: between the calls nobody else writes
+ * to the lists. The calls take any bytes in them, and answer from what they find.
  *
  * LINKING
  *
@@ -90,7 +137,7 @@
  *
  *     cc -std=c99 -Iinclude examples/calls.c target/staticlib/libdronesickle.a -o calls
  *
- * EXAMPLE (with the list above and 64 weights; examples/calls.c is one that runs)
+ * EXAMPLE (with the list above and 64 weights; examples/calls.c is one that runs, examples/draw_sign draws a sign)
  *
  *     uint8_t buffer[DS_LONGEST_FILE];
  *     struct ds_answer built = ds_build(run, 6, ends, 3, 2, 4, weights, 64, buffer, sizeof buffer);
@@ -104,6 +151,19 @@
  *         struct ds_part part = ds_show(buffer, length, found.line);
  *         ..  part.length bytes from buffer + part.start on are the code
  *     }
+ *
+ *     uint8_t levels[DS_BYTES_OF_A_PLACE * DS_MOST_CODES];
+ *     uint8_t times[DS_BYTES_OF_A_PLACE * DS_MOST_CODES];
+ *     size_t list = DS_BYTES_OF_A_PLACE * opened.n;            12 bytes of each, cleared as above
+ *     struct ds_reported reported =
+ *         ds_report(buffer, length, code, code_length, level, time, levels, list, times, list);
+ *     if (reported.kind != DS_ACCEPTED)
+ *         ..  DS_UNKNOWN, or DS_REFUSED with reported.number
+ *
+ *     struct ds_asked asked =
+ *         ds_ask(buffer, length, code, code_length, now, 3600, levels, list, times, list);
+ *     if (asked.kind == DS_FRESH)
+ *         ..  asked.level millimetres, reported at most an hour before now
  */
 #ifndef DRONESICKLE_H
 #define DRONESICKLE_H
@@ -130,8 +190,22 @@ extern "C" {
 /* The bytes of the longest file: a buffer of this length takes any directory. */
 #define DS_LONGEST_FILE 37197
 
-/* The numbers of the refusals. ds_build gives 1 to 8, ds_open 9 to 15, ds_lookup 9, 10, 11, 13 and 16. The
- * place is 0 where none is named here. */
+/* The lowest and the highest level of a report, in millimetres. */
+#define DS_LOWEST_LEVEL (-20000)
+#define DS_HIGHEST_LEVEL 20000
+
+/* The longest limit, in seconds: a day. The shortest is 1. */
+#define DS_LONGEST_LIMIT 86400
+
+/* The bytes of a place in a list of levels or times: a list has DS_BYTES_OF_A_PLACE * n of them. */
+#define DS_BYTES_OF_A_PLACE 4
+
+/* The level of each place in a cleared list. Every level outside the range means never heard; clear with this one. */
+#define DS_NEVER_HEARD 30000
+
+/* The numbers of the refusals. ds_build gives 1 to 8, ds_open 9 to 15, ds_lookup 9, 10, 11, 13 and 16, ds_report
+ * ds_lookup's and 17, 18 and 23, ds_ask ds_lookup's and 19, 22 and 23. No call gives 20 or 21. The place is 0 where
+ * none is named here. */
 enum ds_refusal {
     /* Not refused. Place: 0. */
     DS_SUCCESS = 0,
@@ -183,7 +257,7 @@ enum ds_refusal {
     /* Opening: a rank entry is not the number of assigned vertices before its block, or there are not n
      * assigned vertices in all.
      * Place: the lowest such entry, from 0; ceil(r * v / 64) where only the total is wrong.
-     * Looking up: a rank entry leads past the last line; never in a file that opens.
+     * Looking up, reporting, asking: a rank entry leads past the last line; never in a file that opens.
      * Place: that rank entry, from 0. */
     DS_RANK = 13,
 
@@ -195,15 +269,36 @@ enum ds_refusal {
      * Place: the lowest such line. */
     DS_ASTRAY = 15,
 
-    /* Looking up: the code asked for is empty or has over 32 bytes. */
-    DS_CODE_ASKED = 16
+    /* Looking up, reporting, asking: the code is empty or has over 32 bytes. */
+    DS_CODE_ASKED = 16,
+
+    /* Reporting: the level is not -20,000 to 20,000. */
+    DS_LEVEL = 17,
+
+    /* Reporting: the line was heard, and the time is before that of its last report. */
+    DS_EARLIER = 18,
+
+    /* Asking: the line was heard, and now is before the time of its last report. */
+    DS_NOW_EARLIER = 19,
+
+    /* Asking: the limit is not 1 to 86,400. */
+    DS_LIMIT = 22,
+
+    /* Reporting, asking: the levels or the times are not 4 * n bytes. */
+    DS_LISTS = 23
 };
 
-/* The kinds of answer of a lookup. DS_UNKNOWN is no refusal: the file was read, and the code is not in it. */
+/* The kinds of answer of ds_lookup, ds_report and ds_ask. A kind has the same number in all of them. DS_UNKNOWN is no
+ * refusal: the file was read, and the code is not in it. No answer of ds_report or ds_ask has the kind 0, so
+ * a struct of zeros is never taken for one of theirs. */
 enum ds_kind {
-    DS_AT = 0,
-    DS_UNKNOWN = 1,
-    DS_REFUSED = 2
+    DS_AT = 0,       /* a lookup: the code has a line */
+    DS_UNKNOWN = 1,  /* all three: the code is not in the file */
+    DS_REFUSED = 2,  /* all three: a refusal, with its number and place */
+    DS_ACCEPTED = 3, /* a report: the lists now hold it */
+    DS_NEVER = 4,    /* an ask: the line was never heard */
+    DS_FRESH = 5,    /* an ask: the last report is at most the limit old */
+    DS_STALE = 6     /* an ask: the last report is older than the limit */
 };
 
 /* The answer of a build. */
@@ -227,6 +322,23 @@ struct ds_found {
     uint32_t number; /* of the refusal where kind is DS_REFUSED, else 0 */
     size_t place;    /* of the refusal where kind is DS_REFUSED, else 0 */
     size_t line;     /* where kind is DS_AT, else 0; below n */
+};
+
+/* The answer of a report. */
+struct ds_reported {
+    uint32_t kind;   /* DS_ACCEPTED, DS_UNKNOWN or DS_REFUSED */
+    uint32_t number; /* of the refusal where kind is DS_REFUSED, else 0 */
+    size_t place;    /* of the refusal where kind is DS_REFUSED, else 0 */
+    size_t line;     /* the code's line where kind is DS_ACCEPTED, else 0; below n */
+};
+
+/* The answer of an ask. */
+struct ds_asked {
+    uint32_t kind;   /* DS_NEVER, DS_FRESH, DS_STALE, DS_UNKNOWN or DS_REFUSED */
+    uint32_t number; /* of the refusal where kind is DS_REFUSED, else 0 */
+    size_t place;    /* of the refusal where kind is DS_REFUSED, else 0 */
+    int32_t level;   /* millimetres, where kind is DS_FRESH or DS_STALE, else 0; 0 is a level too: look at kind */
+    uint32_t age;    /* seconds, over the limit, where kind is DS_STALE, else 0 */
 };
 
 /* A part of a file. */
@@ -337,6 +449,62 @@ struct ds_found ds_lookup(const uint8_t *file, size_t file_len,
  * confused. Neither the KY mark nor the bytes after the code are looked at.
  */
 struct ds_part ds_show(const uint8_t *file, size_t file_len, size_t line);
+
+/* Brings a report: the level of a gauge at a time.
+ *
+ * Takes
+ *   file, file_len        the bytes of the file and no others, opened before or not
+ *   code, code_len        the gauge's code; it may lie in the file
+ *   level                 in millimetres, -20,000 to 20,000
+ *   time                  in seconds, any number
+ *   levels, levels_len    the levels of the sign: 4 * n bytes, where n is the file's
+ *   times, times_len      the times of the sign: 4 * n bytes
+ *
+ * Gives DS_ACCEPTED with the code's line, the one that ds_lookup gives. That line's place in levels now holds the
+ * level, and its place in times the time, the low byte first; no other byte has changed. Or gives DS_UNKNOWN or
+ * DS_REFUSED, and no byte has changed. The first that applies, in this order:
+ *   ds_lookup's refusals (9, 10, 11, 9, 16, 13), with their places
+ *   DS_LISTS           (23)  levels_len or times_len is not 4 * n
+ *   DS_UNKNOWN               the code is not in the file; it ends the report here, whatever its level and time
+ *   DS_LEVEL           (17)  level is not -20,000 to 20,000
+ *   DS_EARLIER         (18)  the line was heard, and time is before the time of its last report
+ * An equal time is not before: the report is accepted and replaces the last one. On a line that was never heard
+ * every time is accepted.
+ *
+ * levels and times must not overlap each other, the file or the code.
+ */
+struct ds_reported ds_report(const uint8_t *file, size_t file_len,
+                             const uint8_t *code, size_t code_len,
+                             int32_t level, uint32_t time,
+                             uint8_t *levels, size_t levels_len,
+                             uint8_t *times, size_t times_len);
+
+/* Asks for the last report of a gauge, and whether it is fresh.
+ *
+ * Takes
+ *   file, file_len        the bytes of the file and no others, opened before or not
+ *   code, code_len        the gauge's code; it may lie in the file
+ *   now                   in seconds, counted as the times of the reports are
+ *   limit                 in seconds, 1 to 86,400: the greatest age that is fresh
+ *   levels, levels_len    the levels of the sign: 4 * n bytes, where n is the file's
+ *   times, times_len      the times of the sign: 4 * n bytes
+ *
+ * Writes nothing. What is lent may overlap. Gives the first that applies, in this order:
+ *   ds_lookup's refusals (9, 10, 11, 9, 16, 13), with their places
+ *   DS_LIMIT           (22)  limit is 0 or over 86,400
+ *   DS_LISTS           (23)  levels_len or times_len is not 4 * n
+ *   DS_UNKNOWN               the code is not in the file
+ *   DS_NEVER                 the line was never heard: its stored level is not -20,000 to 20,000. Its stored time
+ *                            is not looked at
+ *   DS_NOW_EARLIER     (19)  now is before the time of the line's last report
+ *   DS_FRESH                 with its level: now less that time is at most limit
+ *   DS_STALE                 with its level, and its age: now less that time
+ */
+struct ds_asked ds_ask(const uint8_t *file, size_t file_len,
+                       const uint8_t *code, size_t code_len,
+                       uint32_t now, uint32_t limit,
+                       const uint8_t *levels, size_t levels_len,
+                       const uint8_t *times, size_t times_len);
 
 #ifdef __cplusplus
 }

@@ -18,9 +18,14 @@ pub const RANK: u8 = 13;
 pub const KEY: u8 = 14;
 pub const ASTRAY: u8 = 15;
 pub const CODE_ASKED: u8 = 16;
+pub const LEVEL_REPORTED: u8 = 17;
+pub const EARLIER_TIME: u8 = 18;
+pub const EARLIER_NOW: u8 = 19;
+pub const LIMIT_ASKED: u8 = 22;
+pub const LISTS_LENT: u8 = 23;
 
 /// Every refusal in words, with what its place names.
-const EXPLANATIONS: [(u8, &str); 16] = [
+const EXPLANATIONS: [(u8, &str); 21] = [
     (ARITY, "the arity is not 2 or 3"),
     (
         PART_SIZE,
@@ -70,6 +75,17 @@ const EXPLANATIONS: [(u8, &str); 16] = [
         "the code stored at a line does not lead to it (place: the lowest such line)",
     ),
     (CODE_ASKED, "the code asked for is empty or over 32 bytes"),
+    (LEVEL_REPORTED, "the level is not -20,000 to 20,000"),
+    (
+        EARLIER_TIME,
+        "the time is before that of the line's last report",
+    ),
+    (
+        EARLIER_NOW,
+        "the time now is before that of the line's last report",
+    ),
+    (LIMIT_ASKED, "the limit is not 1 to 86,400 seconds"),
+    (LISTS_LENT, "a list has not one place for each line"),
 ];
 
 /// A refusal: its number, and a place that is 0 where none is named.
@@ -85,7 +101,7 @@ impl Refusal {
         EXPLANATIONS
             .iter()
             .find(|(number, _)| *number == self.number)
-            .map_or("a number that document 01 does not give", |(_, words)| {
+            .map_or("a number that the documents do not give", |(_, words)| {
                 words
             })
     }

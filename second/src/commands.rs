@@ -1,5 +1,5 @@
-//! The commands build, open, lookup, show, list, vectors, builds, trial and compare: what each reads, writes
-//! and says.
+//! The commands build, open, lookup, show, list, vectors, builds, signs, trial and compare: what each reads,
+//! writes and says.
 
 mod compare;
 
@@ -9,7 +9,7 @@ use second::header::Header;
 use second::listing::refused;
 use second::text;
 use second::trial::answers;
-use second::vectors::{builds, vectors};
+use second::vectors::{builds, signs, vectors};
 use second::{build, length, list, lookup, open, show, CodeList, Found, Refusal};
 use std::ffi::{OsStr, OsString};
 use std::fs;
@@ -24,11 +24,12 @@ const USAGE: &str = "usage:
   second list [FILE]                    list all lines (standard input without FILE)
   second vectors SEED LISTS             write vectors of reading, with this many random lists
   second builds SEED LISTS              write vectors of building, with this many random lists
+  second signs SEED TRACES              write vectors of the sign, with this many random traces
   second trial [FILE]                   answer vectors (standard input without FILE)
   second compare [CALLS [SEED]]         compare the library with this program, on this many random calls";
 
-const COMMANDS: [&str; 9] = [
-    "build", "open", "lookup", "show", "list", "vectors", "builds", "trial", "compare",
+const COMMANDS: [&str; 10] = [
+    "build", "open", "lookup", "show", "list", "vectors", "builds", "signs", "trial", "compare",
 ];
 
 /// The most arguments of compare.
@@ -93,8 +94,9 @@ pub fn run(arguments: &[OsString]) -> Outcome {
         (Some("show"), [file, line]) => show_command(file, line),
         (Some("list"), []) => list_command(None),
         (Some("list"), [file]) => list_command(Some(file)),
-        (Some("vectors"), [seed, lists]) => vectors_command(vectors, seed, lists),
-        (Some("builds"), [seed, lists]) => vectors_command(builds, seed, lists),
+        (Some("vectors"), [seed, lists]) => vectors_command(vectors, seed, lists, "LISTS"),
+        (Some("builds"), [seed, lists]) => vectors_command(builds, seed, lists, "LISTS"),
+        (Some("signs"), [seed, traces]) => vectors_command(signs, seed, traces, "TRACES"),
         (Some("trial"), []) => trial_command(None),
         (Some("trial"), [file]) => trial_command(Some(file)),
         (Some("compare"), given) if given.len() <= MOST_OF_COMPARE => compare_command(given),
@@ -256,15 +258,16 @@ fn read_or_input(path: Option<&OsString>) -> Result<Vec<u8>, Outcome> {
     read(path)
 }
 
-/// The vectors that are made from a seed and a number of lists.
+/// The vectors that are made from a seed and a number of lists or traces.
 fn vectors_command(
     make: fn(u64, u64) -> String,
     seed: &OsStr,
-    lists: &OsStr,
+    number: &OsStr,
+    name: &str,
 ) -> Result<Outcome, Outcome> {
     let seed = decimal(seed, "SEED")?;
-    let lists = decimal(lists, "LISTS")?;
-    Ok(Outcome::success(make(seed, lists)))
+    let number = decimal(number, name)?;
+    Ok(Outcome::success(make(seed, number)))
 }
 
 fn trial_command(path: Option<&OsString>) -> Result<Outcome, Outcome> {

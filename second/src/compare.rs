@@ -1,5 +1,5 @@
 //! The comparison: the same calls to a program and to the second program. Every answer, field by field, and every
-//! byte of every buffer have to be equal.
+//! byte of every buffer and list have to be equal.
 
 mod call;
 mod calls;
@@ -8,12 +8,18 @@ mod files;
 mod lists;
 mod named;
 mod rounds;
+mod second;
+mod signs;
 
 use crate::random::Random;
 use call::{Call, Given};
 use counts::Counts;
 
-pub use calls::{Calls, DsAnswer, DsFound, DsOpened, DsPart, Second, AT, REFUSED, UNKNOWN};
+pub use calls::{
+    Calls, DsAnswer, DsAsked, DsFound, DsOpened, DsPart, DsReported, ACCEPTED, AT, FRESH, NEVER,
+    REFUSED, STALE, UNKNOWN,
+};
+pub use second::Second;
 
 /// A program that is held to the second program, and what they have answered alike.
 pub struct Comparison<'a> {

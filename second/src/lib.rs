@@ -1,5 +1,6 @@
-//! The second program: the code directory of document 01, written from the documents alone and as
-//! literally as possible, so that the proved implementation can be held to account with it.
+//! The second program: the code directory of document 01 and the sign of document 02 a), written from
+//! the documents alone and as literally as possible, so that the proved implementation can be held to
+//! account with it.
 #![deny(unsafe_code)]
 
 pub mod answers;
@@ -16,6 +17,7 @@ pub mod looking;
 pub mod opening;
 pub mod random;
 pub mod refusals;
+pub mod sign;
 pub mod sizes;
 pub mod table;
 pub mod text;

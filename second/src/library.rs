@@ -1,7 +1,8 @@
 //! The proved library, as include/dronesickle.h declares it. This module alone has `unsafe`.
 #![allow(unsafe_code)]
 
-use crate::compare::{Calls, DsAnswer, DsFound, DsOpened, DsPart};
+use crate::compare::{Calls, DsAnswer, DsAsked, DsFound, DsOpened, DsPart, DsReported};
+use crate::sign::Report;
 use crate::CodeList;
 
 // The declarations are those of include/dronesickle.h, argument by argument and field by field; the structs have
@@ -27,6 +28,32 @@ unsafe extern "C" {
     fn ds_lookup(file: *const u8, file_len: usize, code: *const u8, code_len: usize) -> DsFound;
 
     fn ds_show(file: *const u8, file_len: usize, line: usize) -> DsPart;
+
+    fn ds_report(
+        file: *const u8,
+        file_len: usize,
+        code: *const u8,
+        code_len: usize,
+        level: i32,
+        time: u32,
+        levels: *mut u8,
+        levels_len: usize,
+        times: *mut u8,
+        times_len: usize,
+    ) -> DsReported;
+
+    fn ds_ask(
+        file: *const u8,
+        file_len: usize,
+        code: *const u8,
+        code_len: usize,
+        now: u32,
+        limit: u32,
+        levels: *const u8,
+        levels_len: usize,
+        times: *const u8,
+        times_len: usize,
+    ) -> DsAsked;
 }
 
 /// The library that is linked.
@@ -76,5 +103,57 @@ impl Calls for Library {
     fn show(&self, file: &[u8], line: usize) -> DsPart {
         // SAFETY: the pointer and the length are those of a slice, and the call only reads.
         unsafe { ds_show(file.as_ptr(), file.len(), line) }
+    }
+
+    fn report(
+        &self,
+        file: &[u8],
+        code: &[u8],
+        report: Report,
+        levels: &mut [u8],
+        times: &mut [u8],
+    ) -> DsReported {
+        // SAFETY: each pointer and length are those of a slice. The lists are lent to this call alone, so that
+        // neither overlaps another slice.
+        unsafe {
+            ds_report(
+                file.as_ptr(),
+                file.len(),
+                code.as_ptr(),
+                code.len(),
+                report.level,
+                report.time,
+                levels.as_mut_ptr(),
+                levels.len(),
+                times.as_mut_ptr(),
+                times.len(),
+            )
+        }
+    }
+
+    fn ask(
+        &self,
+        file: &[u8],
+        code: &[u8],
+        now: u32,
+        limit: u32,
+        levels: &[u8],
+        times: &[u8],
+    ) -> DsAsked {
+        // SAFETY: the pointers and the lengths are those of four slices, and the call only reads.
+        unsafe {
+            ds_ask(
+                file.as_ptr(),
+                file.len(),
+                code.as_ptr(),
+                code.len(),
+                now,
+                limit,
+                levels.as_ptr(),
+                levels.len(),
+                times.as_ptr(),
+                times.len(),
+            )
+        }
     }
 }

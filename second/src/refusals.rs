@@ -1,15 +1,18 @@
 //! The refusal numbers in groups, by the calls that give them, and what the place of each names.
 
 use crate::answers::{
-    ARITY, ASTRAY, BUFFER, CODE_ASKED, CODE_LIST, CYCLIC, KEY, LENGTH, MARK, RANK, REPEATED, VALUE,
+    ARITY, ASTRAY, BUFFER, CODE_ASKED, CODE_LIST, CYCLIC, EARLIER_NOW, KEY, LENGTH, LEVEL_REPORTED,
+    LIMIT_ASKED, LISTS_LENT, MARK, RANK, REPEATED, VALUE,
 };
 
-/// The calls that first give a refusal number: building 1 to 8, opening 9 to 15, looking up 16.
+/// The calls that first give a refusal number: building 1 to 8, opening 9 to 15, looking up 16, and the sign's
+/// two calls 17 to 19, 22 and 23.
 #[derive(Clone, Copy, Debug, PartialEq, Eq)]
 pub enum Group {
     Building,
     Opening,
     LookingUp,
+    Sign,
     None,
 }
 
@@ -19,6 +22,7 @@ pub fn group(number: u8) -> Group {
         ARITY..=CYCLIC => Group::Building,
         LENGTH..=ASTRAY => Group::Opening,
         CODE_ASKED => Group::LookingUp,
+        LEVEL_REPORTED..=EARLIER_NOW | LIMIT_ASKED..=LISTS_LENT => Group::Sign,
         _ => Group::None,
     }
 }
@@ -36,7 +40,7 @@ pub enum Meaning {
     Line,
 }
 
-/// The third column of document 01's table; nothing where the number is no refusal's.
+/// The third column of document 01's table; nothing where the number is the sign's or no refusal's.
 pub fn meaning(number: u8) -> Meaning {
     match number {
         CODE_LIST | REPEATED => Meaning::Code,

@@ -10,8 +10,11 @@
 //! | `B` | `built` or `refused NUMBER PLACE`, and two checksums of the whole buffer |
 //! | `N` | `length` and a number, 0 outside the sizes |
 //! | `G` | `group`, the calls that give the number, and what its place names |
+//! | `A` | `accepted LINE`, `unknown` or `refused NUMBER PLACE`, and two checksums of the levels and two of the times |
+//! | `Q` | `never`, `fresh LEVEL`, `stale LEVEL AGE`, `unknown` or `refused NUMBER PLACE` |
 
 mod checksums;
+pub(crate) mod signs;
 mod words;
 
 use crate::header::checked_header;
@@ -27,13 +30,16 @@ const LONGEST_CODE_ASKED: usize = 4_096;
 const MOST_ENDS: usize = 2_048;
 const MOST_WEIGHTS: usize = 128;
 
-/// What the vectors leave to those that follow: the file under trial, and what is lent to a build.
+/// What the vectors leave to those that follow: the file under trial, what is lent to a build, and the lists that are
+/// lent to the sign.
 #[derive(Default)]
 pub(crate) struct Held {
     pub file: Vec<u8>,
     pub run: Vec<u8>,
     pub ends: Vec<u16>,
     pub weights: Vec<u16>,
+    pub levels: Vec<u8>,
+    pub times: Vec<u8>,
 }
 
 /// The answers to vectors, or words about the first line that is no vector.
@@ -60,7 +66,7 @@ fn answer(line: &[u8], held: &mut Held) -> Option<String> {
     match (letter, fields) {
         (b"#", _) => Some(String::new()),
         (b"T", []) => String::from_utf8(list(&held.file)).ok(),
-        (b"C" | b"P" | b"F" | b"R" | b"Z" | b"E" | b"W", _) => {
+        (b"C" | b"P" | b"F" | b"R" | b"Z" | b"E" | b"W" | b"K" | b"V" | b"U" | b"X" | b"Y", _) => {
             change(letter, fields, held).map(|()| String::new())
         }
         _ => call(letter, fields, held).map(|words| words + "\n"),
@@ -78,7 +84,7 @@ pub(crate) fn change(letter: &[u8], fields: &[&[u8]], held: &mut Held) -> Option
         (b"Z", [length]) => resize(&mut held.run, length)?,
         (b"E", ends) => held.ends = numbers_up_to(MOST_ENDS, ends)?,
         (b"W", weights) => held.weights = numbers_up_to(MOST_WEIGHTS, weights)?,
-        _ => return None,
+        _ => return signs::change(letter, fields, held),
     }
     Some(())
 }
@@ -106,25 +112,21 @@ fn call(letter: &[u8], fields: &[&[u8]], held: &mut Held) -> Option<String> {
             format!("length {}", length.unwrap_or(0))
         }
         (b"G", [number]) => grouped(u8::try_from(decimal(number)?).ok()?),
-        _ => return None,
+        _ => return signs::answer(letter, fields, held),
     })
 }
 
 /// Cuts bytes to a length, or lengthens them to it with zeros.
 pub(crate) fn resize(bytes: &mut Vec<u8>, length: &[u8]) -> Option<()> {
-    let length = usize::try_from(decimal(length)?).ok()?;
-    if length > LONGEST_FILE {
-        return None;
-    }
-    bytes.resize(length, 0);
+    bytes.resize(number_up_to(LONGEST_FILE, length)?, 0);
     Some(())
 }
 
-/// Puts bytes into a file that has them all.
-fn put(file: &mut [u8], place: &[u8], bytes: &[u8]) -> Option<()> {
+/// Puts bytes into a file or a list that has them all.
+fn put(held: &mut [u8], place: &[u8], bytes: &[u8]) -> Option<()> {
     let place = usize::try_from(decimal(place)?).ok()?;
     let bytes = bytes_of_hex(bytes).ok()?;
-    let places = file.get_mut(place..)?.get_mut(..bytes.len())?;
+    let places = held.get_mut(place..)?.get_mut(..bytes.len())?;
     places.copy_from_slice(&bytes);
     Some(())
 }
@@ -145,6 +147,11 @@ pub(crate) fn bytes_asked(words: &[&[u8]]) -> Option<Vec<u8>> {
         [code] => bytes_up_to(LONGEST_CODE_ASKED, code),
         _ => None,
     }
+}
+
+fn number_up_to(most: usize, digits: &[u8]) -> Option<usize> {
+    let number = usize::try_from(decimal(digits)?).ok()?;
+    (number <= most).then_some(number)
 }
 
 fn bytes_up_to(most: usize, digits: &[u8]) -> Option<Vec<u8>> {

@@ -1,5 +1,6 @@
-//! Vectors for the trial of a reader and of a builder: files, what is lent to a build, and the
-//! calls, as lines of text. `vectors` makes those of reading, `builds` those of building.
+//! Vectors for the trial of a reader, of a builder and of a sign: files, what is lent to a build or to
+//! the sign, and the calls, as lines of text. `vectors` makes those of reading, `builds` those of
+//! building and `signs` those of the sign.
 //!
 //! | Line | Means |
 //! |---|---|
@@ -19,12 +20,19 @@
 //! | `E NUMBERS` | the ends of the code list become these; `E` alone, no ends |
 //! | `W NUMBERS` | the weights become these; `W` alone, no weights |
 //! | `B R V LENGTH` | the file is made so long, as `C` does, and is the buffer of a build |
+//! | `K PLACES` | the levels and the times become cleared lists with so many places |
+//! | `V LENGTH`, `U LENGTH` | the levels are cut to this length or lengthened to it with zeros; the times |
+//! | `X PLACE BYTES`, `Y PLACE BYTES` | the levels' bytes from this place on become these; the times' |
+//! | `A BYTES LEVEL TIME` | report a level for a code, with the lists as they are |
+//! | `Q BYTES NOW LIMIT` | ask for the level of a code |
 //!
-//! Numbers are decimal, up to 18,446,744,073,709,551,615, ends and weights up to 65,535; bytes are
-//! lowercase hex. The file and the run are empty at first and have at most 65,536 bytes, a code
-//! that is looked up at most 4,096. There are at most 2,048 ends and 128 weights, at first none.
-//! What a build leaves in its buffer is the file for the vectors that follow. `trial` answers the
-//! calls.
+//! Numbers are decimal, up to 18,446,744,073,709,551,615, ends and weights up to 65,535, times and
+//! limits up to 4,294,967,295; a level is a number of 32 bits, with a minus before it where it is below
+//! zero. Bytes are lowercase hex; for the empty code `A` and `Q` have none, and so two blanks. The file
+//! and the run are empty at first and have at most 65,536 bytes, the lists too and at most 4,104; a code
+//! that is asked for has at most 4,096. There are at most 2,048 ends and 128 weights, at first none.
+//! What a build leaves in its buffer is the file for the vectors that follow, and what a report leaves
+//! in the lists are their lists. `trial` answers the calls.
 
 pub(crate) mod building;
 mod cases;
@@ -34,12 +42,15 @@ pub(crate) mod inputs;
 pub(crate) mod lists;
 mod order;
 pub(crate) mod script;
+mod signs;
+pub mod traces;
 
 use crate::header::checked_header;
 use crate::random::Random;
 use script::Script;
 
 pub use building::builds;
+pub use signs::signs;
 
 /// Lines far past the last: as 32 bits or 64 bits that wrap, some would be line 0 or 1.
 pub(crate) const HUGE_LINES: [u64; 5] = [

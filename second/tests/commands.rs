@@ -292,6 +292,9 @@ fn vectors_and_their_trial() {
     let made = folder.second(&["builds", "1", "0"]);
     assert!(made.stdout.starts_with(b"# vectors of building of seed 1"));
     assert_eq!(made.status.code(), Some(0), "{}", words(&made));
+    let made = folder.second(&["signs", "1", "0"]);
+    assert!(made.stdout.starts_with(b"# vectors of the sign of seed 1"));
+    assert_eq!(made.status.code(), Some(0), "{}", words(&made));
 }
 
 /// `tools/try-callers` runs the command with the library.
@@ -312,7 +315,7 @@ fn compare_says_that_it_has_no_library() {
 #[test]
 fn wrong_calls() {
     let folder = Folder::with_directory("wrong");
-    let calls: [(&[&str], &str); 17] = [
+    let calls: [(&[&str], &str); 19] = [
         (&[], "a command is missing"),
         (&["frobnicate"], "unknown command `frobnicate`"),
         (&["build"], "build takes another number of arguments"),
@@ -323,6 +326,8 @@ fn wrong_calls() {
         (&["vectors", "one", "2"], "SEED is `one`"),
         (&["builds", "1"], "builds takes"),
         (&["builds", "1", "two"], "LISTS is `two`"),
+        (&["signs", "1"], "signs takes"),
+        (&["signs", "1", "two"], "TRACES is `two`"),
         (&["compare", "1", "2", "3"], "compare takes"),
         (&["compare", "some"], "CALLS is `some`"),
         (&["compare", "1", "soon"], "SEED is `soon`"),

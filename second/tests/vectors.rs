@@ -229,6 +229,13 @@ fn groups_and_meanings() {
         "group opening line",
         "group opening line",
         "group looking-up nothing",
+        "group sign nothing",
+        "group sign nothing",
+        "group sign nothing",
+        "group none nothing",
+        "group none nothing",
+        "group sign nothing",
+        "group sign nothing",
         "group none nothing",
     ];
     assert_eq!(given[..wanted.len()], wanted);

@@ -29,15 +29,18 @@ foundNumbers (found.At l) = (0, 0, 0, l)
 foundNumbers found.Unknown = (1, 0, 0, 0)
 foundNumbers (found.Refused number place) = (2, number, place, 0)
 
--- 1 to 8 building, 9 to 15 opening, 16 looking up
+-- 1 to 8 building, 9 to 15 opening, 16 looking up; of document 02's so far 17 to 19, 22 and 23, which the sign gives
 unfoldable pub groupOf : ℕ → RefusalGroup
 groupOf k =
     cond (leb k 0) group.NoRefusal
     (cond (leb k 8) group.Building
     (cond (leb k 15) group.Opening
-    (cond (leb k 16) group.LookingUp group.NoRefusal)))
+    (cond (leb k 16) group.LookingUp
+    (cond (leb k 19) group.Sign
+    (cond (leb k 21) group.NoRefusal
+    (cond (leb k 23) group.Sign group.NoRefusal))))))
 
--- the column "Place" of the table
+-- the column "Place" of the table; the sign's have none
 unfoldable pub meaningOf : ℕ → PlaceMeaning
 meaningOf k =
     cond (leb k 4) meaning.Nothing

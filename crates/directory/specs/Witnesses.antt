@@ -234,15 +234,15 @@ pub witnesses-hold : every holds worked && every isSo trials ≡ true
 unfolding diagonal AAA BAA BAE BBB BDF CCD CFF FDE FEF early late before behind lentIn lentOf lentBy tall eleven elevenLent keyOf fileBy one ten wide worked trials plainWeights BA BB BC DA DB holds isSo
 witnesses-hold = refl
 
--- ---- the numbers 0 to 17: their groups, and what their places mean
+-- ---- the numbers 0 to 24: their groups, and what their places mean
 
 abbrev numbers : List ℕ
-numbers = those 18 (λ k. true)
+numbers = those 25 (λ k. true)
 
-pub groups-are : map groupOf numbers ≡ G.NoRefusal ∷ replicate 8 G.Building ++ replicate 7 G.Opening ++ G.LookingUp ∷ G.NoRefusal ∷ []
+pub groups-are : map groupOf numbers ≡ G.NoRefusal ∷ replicate 8 G.Building ++ replicate 7 G.Opening ++ G.LookingUp ∷ replicate 3 G.Sign ++ replicate 2 G.NoRefusal ++ replicate 2 G.Sign ++ G.NoRefusal ∷ []
 unfolding those groupOf
 groups-are = refl
 
-pub meanings-are : map meaningOf numbers ≡ replicate 5 P.Nothing ++ P.Code ∷ P.LengthNeeded ∷ P.Code ∷ P.CodesLeft ∷ P.Nothing ∷ P.Offset ∷ P.Nothing ∷ P.Vertex ∷ P.RankEntry ∷ P.Line ∷ P.Line ∷ P.Nothing ∷ P.Nothing ∷ []
+pub meanings-are : map meaningOf numbers ≡ replicate 5 P.Nothing ++ P.Code ∷ P.LengthNeeded ∷ P.Code ∷ P.CodesLeft ∷ P.Nothing ∷ P.Offset ∷ P.Nothing ∷ P.Vertex ∷ P.RankEntry ∷ P.Line ∷ P.Line ∷ replicate 9 P.Nothing
 unfolding those meaningOf
 meanings-are = refl

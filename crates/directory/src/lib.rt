@@ -37,6 +37,7 @@ pub enum RefusalGroup {
     Building,
     Opening,
     LookingUp,
+    Sign,
     NoRefusal,
 }
 

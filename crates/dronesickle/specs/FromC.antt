@@ -15,11 +15,21 @@ use Rattle.directory.specs.Answers.{builtNumbers, openingNumbers, foundNumbers}
 use Rattle.directory.specs.Calls.{buildOf, buildNumbersOf, bufferAfterOf, openOf, openNumbersOf, lookupOf, lookupNumbersOf, showPartOf}
 use Rattle.directory.specs.Demands.{the-numbers-of-building, building-refuses-with-1-to-8}
 use Rattle.directory.specs.EveryFile.{the-numbers-of-opening, the-numbers-of-looking-up, opening-refuses-with-9-to-15}
+use Rattle.sign.specs.declared.Reported.{Reported}
+use Rattle.sign.specs.declared.Reported.the-variants as told
+use Rattle.sign.specs.declared.Answer.{Answer}
+use Rattle.sign.specs.declared.Answer.the-variants as answers
+use Rattle.sign.specs.Rules.{Report, Question}
+use Rattle.sign.specs.Keeping.{Lists}
+use Rattle.sign.specs.Calls.{reportOf, afterReport, askOf}
+use Rattle.sign.specs.Answers.{reportedNumbers, answerNumbers}
 use Rattle.dronesickle.specs.declared.DsAnswer.{DsAnswer}
 use Rattle.dronesickle.specs.declared.DsOpened.{DsOpened}
 use Rattle.dronesickle.specs.declared.DsFound.{DsFound}
 use Rattle.dronesickle.specs.declared.DsPart.{DsPart}
-use Rattle.dronesickle.specs.Numbers.{answer, opened, found, part}
+use Rattle.dronesickle.specs.declared.DsReported.{DsReported}
+use Rattle.dronesickle.specs.declared.DsAsked.{DsAsked}
+use Rattle.dronesickle.specs.Numbers.{answer, opened, found, part, reported, asked}
 
 -- ---- the fields tell the answer
 
@@ -56,6 +66,30 @@ kind-is-0-exactly-at-a-line f t = rw (← the-numbers-of-looking-up f t) (tells-
 pub kind-is-1-exactly-if-unknown : (f t : List ℕ) → (found (lookupNumbersOf f t) .kind ≡ 1) ↔ (lookupOf f t ≡ looked.Unknown)
 kind-is-1-exactly-if-unknown f t = rw (← the-numbers-of-looking-up f t) (tells-unknown (lookupOf f t))
 
+-- ---- the sign
+
+-- of a report: 3 exactly if it was accepted, at the line beside it; 1 exactly if its code is unknown; 2 exactly if it was refused, with the number and place beside it
+pub kind-tells-the-report : (o : Reported) → let c = reported (reportedNumbers o) in ((c .kind ≡ 3) ↔ (o ≡ told.Accepted (c .line))) × ((c .kind ≡ 1) ↔ (o ≡ told.Unknown)) × ((c .kind ≡ 2) ↔ (o ≡ told.Refused (c .number) (c .place)))
+kind-tells-the-report (told.Accepted line) = ((λ e. refl, λ e. refl), (λ e. absurd (omega arith), λ e. cc), (λ e. absurd (omega arith), λ e. cc))
+kind-tells-the-report told.Unknown = ((λ e. absurd (omega arith), λ e. cc), (λ e. refl, λ e. refl), (λ e. absurd (omega arith), λ e. cc))
+kind-tells-the-report (told.Refused number place) = ((λ e. absurd (omega arith), λ e. cc), (λ e. absurd (omega arith), λ e. cc), (λ e. refl, λ e. refl))
+
+-- of asking: 5 exactly if it is fresh, with the level beside it; 6 exactly if it is stale, with level and age; 4 exactly if it was never heard
+pub kind-tells-what-is-shown : (a : Answer) → let c = asked (answerNumbers a) in ((c .kind ≡ 5) ↔ (a ≡ answers.Fresh (c .level))) × ((c .kind ≡ 6) ↔ (a ≡ answers.Stale (c .level) (c .age))) × ((c .kind ≡ 4) ↔ (a ≡ answers.Never))
+kind-tells-what-is-shown answers.Never = ((λ e. absurd (omega arith), λ e. cc), (λ e. absurd (omega arith), λ e. cc), (λ e. refl, λ e. refl))
+kind-tells-what-is-shown (answers.Fresh level) = ((λ e. refl, λ e. refl), (λ e. absurd (omega arith), λ e. cc), (λ e. absurd (omega arith), λ e. cc))
+kind-tells-what-is-shown (answers.Stale level age) = ((λ e. absurd (omega arith), λ e. cc), (λ e. refl, λ e. refl), (λ e. absurd (omega arith), λ e. cc))
+kind-tells-what-is-shown answers.Unknown = ((λ e. absurd (omega arith), λ e. cc), (λ e. absurd (omega arith), λ e. cc), (λ e. absurd (omega arith), λ e. cc))
+kind-tells-what-is-shown (answers.Refused number place) = ((λ e. absurd (omega arith), λ e. cc), (λ e. absurd (omega arith), λ e. cc), (λ e. absurd (omega arith), λ e. cc))
+
+-- 1 exactly if the code is unknown; 2 exactly if asking was refused, with the number and place beside it
+pub kind-tells-what-is-not-shown : (a : Answer) → let c = asked (answerNumbers a) in ((c .kind ≡ 1) ↔ (a ≡ answers.Unknown)) × ((c .kind ≡ 2) ↔ (a ≡ answers.Refused (c .number) (c .place)))
+kind-tells-what-is-not-shown answers.Never = ((λ e. absurd (omega arith), λ e. cc), (λ e. absurd (omega arith), λ e. cc))
+kind-tells-what-is-not-shown (answers.Fresh level) = ((λ e. absurd (omega arith), λ e. cc), (λ e. absurd (omega arith), λ e. cc))
+kind-tells-what-is-not-shown (answers.Stale level age) = ((λ e. absurd (omega arith), λ e. cc), (λ e. absurd (omega arith), λ e. cc))
+kind-tells-what-is-not-shown answers.Unknown = ((λ e. refl, λ e. refl), (λ e. absurd (omega arith), λ e. cc))
+kind-tells-what-is-not-shown (answers.Refused number place) = ((λ e. absurd (omega arith), λ e. cc), (λ e. refl, λ e. refl))
+
 -- ---- any two results that the contract of a call allows are equal
 
 pub building-is-decided : (I : Lent) {a b : DsAnswer} {x y : List ℕ} → (a ≡ answer (buildNumbersOf I)) × (x ≡ bufferAfterOf I) → (b ≡ answer (buildNumbersOf I)) × (y ≡ bufferAfterOf I) → (a ≡ b) × (x ≡ y)
@@ -69,3 +103,9 @@ looking-up-is-decided f t a b = a ∙ sym b
 
 pub showing-is-decided : (f : List ℕ) (l : ℕ) {p q : DsPart} → p ≡ part (showPartOf f l) → q ≡ part (showPartOf f l) → p ≡ q
 showing-is-decided f l a b = a ∙ sym b
+
+pub reporting-is-decided : (f : List ℕ) (q : Report) (S : Lists) {a b : DsReported} {x y : Lists} → (a ≡ reported (reportedNumbers (reportOf f q S))) × (x ≡ afterReport f q S) → (b ≡ reported (reportedNumbers (reportOf f q S))) × (y ≡ afterReport f q S) → (a ≡ b) × (x ≡ y)
+reporting-is-decided f q S a b = (a .0 ∙ sym (b .0), a .1 ∙ sym (b .1))
+
+pub asking-is-decided : (f : List ℕ) (q : Question) (S : Lists) {a b : DsAsked} → a ≡ asked (answerNumbers (askOf f q S)) → b ≡ asked (answerNumbers (askOf f q S)) → a ≡ b
+asking-is-decided f q S a b = a ∙ sym b

@@ -13,6 +13,7 @@ pub fn group_of(number: u8) -> RefusalGroup
         1..=8 => RefusalGroup::Building,
         9..=15 => RefusalGroup::Opening,
         16 => RefusalGroup::LookingUp,
+        17..=19 | 22..=23 => RefusalGroup::Sign,
         _ => RefusalGroup::NoRefusal,
     }
 }

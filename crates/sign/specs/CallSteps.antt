@@ -1,6 +1,6 @@
 -- Reporting and asking, step by step, as the code goes through them. Assumes nothing.
 use mathlib.Core.Path.{_≡_, refl, sym, ap, _∙_}
-use mathlib.Core.Bool.{Bool, true, false, not}
+use mathlib.Core.Bool.{Bool, true}
 use mathlib.Core.List.{List}
 use Prim.Native.Nat.{ℕ, _<_}
 use native.Mathlib.Omega.{arith}
@@ -10,7 +10,7 @@ use Rattle.directory.specs.declared.Opening.{Opening}
 use Rattle.directory.specs.declared.Opening.the-variants as opening
 use Rattle.directory.specs.declared.Found.{Found}
 use Rattle.directory.specs.declared.Found.the-variants.{At, Unknown, Refused}
-use Rattle.directory.specs.Refusals.{Refusal, first, NoneApplies}
+use Rattle.directory.specs.Refusals.{NoneApplies}
 use Rattle.directory.specs.RefusalLaws.{first-is}
 use Rattle.directory.specs.Calls.{headerOf, lookupOf}
 use Rattle.directory.specs.EveryFile.{a-line-that-is-given-is-below-the-headers-n, a-refused-header-is-refused-to-every-code}

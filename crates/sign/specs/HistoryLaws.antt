@@ -1,19 +1,18 @@
 -- What the plain map has for a code is the code's last accepted report. Assumes nothing.
 use mathlib.Core.Path.{_≡_, refl, sym, ap, _∙_}
 use mathlib.Core.Logic.{_⊎_, inl, inr, ⊎-elim}
-use mathlib.Core.Bool.{Bool, true, false, cond, _&&_}
+use mathlib.Core.Bool.{Bool, true, false, cond}
 use mathlib.Core.List.{List, [], _∷_, _++_}
 use Prim.Native.Nat.{ℕ}
 use native.Mathlib.Omega.{arith}
 use lib.IntN.{ℤ}
-use Rattle.counting.specs.Lists.{same}
 use Rattle.counting.specs.ListsLaws.{same-equal, same-self}
 use Rattle.sign.specs.declared.Last.{Last}
 use Rattle.sign.specs.declared.Last.the-variants.{NeverHeard, Heard}
 use Rattle.sign.specs.declared.Reported.{Reported}
 use Rattle.sign.specs.declared.Reported.the-variants.{Accepted, Unknown, Refused}
 use Rattle.sign.specs.Rules.{Report}
-use Rattle.sign.specs.Trace.{Call, Reply, log, after, Map, with, accepted, mapReport, mapReply, mapNext, plain}
+use Rattle.sign.specs.Trace.{Call, log, after, Map, with, accepted, mapReport, mapReply, mapNext, plain}
 use Rattle.sign.specs.Trace.Call.{report, ask}
 use Rattle.sign.specs.Trace.Reply.{reported, asked}
 use Rattle.sign.specs.History.{Entry, accepts, NoneAccepted, LastAccepted}

@@ -1,18 +1,15 @@
 -- The lists keep the last reports: what is kept at a line is what was put there, other lines stay, and cleared lists were never heard. Assumes nothing.
-use mathlib.Core.Path.{_≡_, refl, sym, ap, _∙_}
+use mathlib.Core.Path.{_≡_, refl}
 use mathlib.Core.Logic.{_≢_}
-use mathlib.Core.Bool.{Bool, true, false, cond, _&&_}
-use mathlib.Core.List.{List}
-use Prim.Native.Nat.{ℕ, _+_, _*_, _/_, _≤_, _<_}
+use mathlib.Core.Bool.{Bool, true, false, _&&_}
+use Prim.Native.Nat.{ℕ, _/_, _<_}
 use native.Mathlib.Omega.{arith}
 use borrow.Author.Tests.{eqb-true, eq-eqb, ltb-true, lt-ltb}
-use lib.Dec.{eqb}
 use lib.IntN.{ℤ, pos}
 use lib.ListN.{length, getD}
 use Rattle.counting.specs.TestLaws.{and-left, and-right, and-both}
-use Rattle.sign.specs.declared.Last.{Last}
 use Rattle.sign.specs.declared.Last.the-variants.{NeverHeard, Heard}
-use Rattle.sign.specs.Levels.{inRange, twos, fromTwos}
+use Rattle.sign.specs.Levels.{inRange, twos}
 use Rattle.sign.specs.LevelLaws.{level-back, range-bits}
 use Rattle.sign.specs.Places.{placeBytes, placeAt, numberAt, filled}
 use Rattle.sign.specs.PlaceLaws.{length-with, byte-stays, number-same, number-other, length-filled, number-filled}

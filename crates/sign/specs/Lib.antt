@@ -15,5 +15,7 @@ pub mod History
 pub mod HistoryLaws
 pub mod Refusing
 pub mod RefusingLaws
+pub mod AnyListsLaws
+pub mod RuleLaws
 pub mod PromiseLaws
 pub mod Promises

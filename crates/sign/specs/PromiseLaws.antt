@@ -1,20 +1,17 @@
--- What asking gives after any calls from cleared lists on, by the code's last accepted report. Assumes nothing.
+-- What reporting and asking give after any calls from cleared lists on, by the code's last accepted report. Assumes nothing.
 use mathlib.Core.Path.{_≡_, refl, sym, ap, subst, _∙_}
 use mathlib.Core.Logic.{_≢_, _↔_}
-use mathlib.Core.Bool.{Bool, true, false, cond}
+use mathlib.Core.Bool.{Bool, true, false}
 use mathlib.Core.List.{List, [], _∷_, _++_}
 use Prim.Native.Nat.{ℕ, _+_, _-_, _≤_, _<_}
 use native.Mathlib.Omega.{arith}
-use borrow.Author.Tests.{ltb-false, leb-true, leb-false, not-false}
-use lib.Dec.{ltb, leb}
+use borrow.Author.Tests.{ltb-false, le-ltb}
 use lib.IntN.{ℤ}
 use Rattle.counting.specs.Lists.{same}
 use Rattle.counting.specs.ListsLaws.{same-equal}
 use Rattle.directory.specs.declared.Opening.the-variants as opening
 use Rattle.directory.specs.declared.Found.{Found}
 use Rattle.directory.specs.declared.Found.the-variants.{At, Unknown, Refused}
-use Rattle.directory.specs.Refusals.{Refusal, first, NoneApplies}
-use Rattle.directory.specs.RefusalLaws.{none-right}
 use Rattle.directory.specs.Calls.{headerOf, lookupOf}
 use Rattle.sign.specs.declared.Last.{Last}
 use Rattle.sign.specs.declared.Last.the-variants.{NeverHeard, Heard}
@@ -22,89 +19,20 @@ use Rattle.sign.specs.declared.Reported.{Reported}
 use Rattle.sign.specs.declared.Reported.the-variants as told
 use Rattle.sign.specs.declared.Answer.{Answer}
 use Rattle.sign.specs.declared.Answer.the-variants as answer
-use Rattle.sign.specs.Rules.{Report, Question, reportRefusals, askRefusals, judged, answered, limitAllowed}
-use Rattle.sign.specs.RuleSteps.{answered-never, answered-early, answered-fresh, answered-stale, Passes, enter-found}
-use Rattle.sign.specs.Keeping.{Lists, fits, lastAt, heardAt, kept, cleared}
-use Rattle.sign.specs.KeepingLaws.{fits-room, heard-fits, OwnPlaceAlone, kept-own}
-use Rattle.sign.specs.Calls.{linesIn, checks, entered, onLine, reportOf, afterReport, askOf}
-use Rattle.sign.specs.CallSteps.{line-below, entered-in}
-use Rattle.sign.specs.Refusing.{lookupRefusal, inOrder, reportTable, askTable}
-use Rattle.sign.specs.RefusingLaws.{report-accepted-exactly, ask-judged}
-use Rattle.sign.specs.Trace.{Call, Reply, log, after, signReply, signNext, sign, Map, nothing, mapAsk, mapNext, plain}
+use Rattle.sign.specs.Rules.{Report, Question, beforeLast, told, answered, limitAllowed}
+use Rattle.sign.specs.Levels.{inRange}
+use Rattle.sign.specs.RuleSteps.{answered-never, answered-fresh, answered-stale, Passes, enter-found}
+use Rattle.sign.specs.Keeping.{Lists, cleared}
+use Rattle.sign.specs.Calls.{entered, onLine, reportOf, afterReport, askOf}
+use Rattle.sign.specs.CallSteps.{entered-in}
+use Rattle.sign.specs.RuleLaws.{told-accepted, never-of, fresh-of, stale-of}
+use Rattle.sign.specs.RefusingLaws.{report-accepted-exactly}
+use Rattle.sign.specs.Trace.{Call, log, after, signReply, signNext, sign, Map, nothing, mapReport, mapAsk, plain}
 use Rattle.sign.specs.Trace.Call.{report, ask}
 use Rattle.sign.specs.Trace.Reply.{reported, asked}
-use Rattle.sign.specs.TraceLaws.{Stands, ask-same, next-stands, log-same, after-stands, cleared-stands}
+use Rattle.sign.specs.TraceLaws.{Stands, report-same, ask-same, log-same, after-stands, cleared-stands}
 use Rattle.sign.specs.History.{Entry, accepts, NoneAccepted, LastAccepted}
 use Rattle.sign.specs.HistoryLaws.{lastIn, map-last, last-none, last-is, heard-last, never-none}
-
--- ---- a report that is not accepted changes no byte, whatever the file and the lists
-
-pub not-kept : (f : List ℕ) (q : Report) (S : Lists) → ((line : ℕ) → reportOf f q S ≢ told.Accepted line) → afterReport f q S ≡ S
-unfolding afterReport kept
-not-kept f q S d = go (reportOf f q S) d
-  where
-    go : (r : Reported) → ((line : ℕ) → r ≢ told.Accepted line) → kept r (q .level) (q .time) S ≡ S
-    go (told.Accepted line) d = absurd (d line refl)
-    go told.Unknown d = refl
-    go (told.Refused k p) d = refl
-
--- ---- where no refusal applies
-
--- the lists fit
-none-fits : (found : Found) (limited fitting : Bool) (rows : ℕ → List Refusal) → NoneApplies (inOrder found (checks limited fitting) rows) → fitting ≡ true
-unfolding inOrder
-none-fits found limited fitting rows h = not-false _ (none-right (lookupRefusal found) _ h .1 .0)
-
--- asking goes by what the lists have at the line
-pub ask-heard : (f : List ℕ) (q : Question) (S : Lists) (line : ℕ) → lookupOf f (q .code) ≡ At line → NoneApplies (askTable f q S) → askOf f q S ≡ judged (heardAt S line) (q .now) (q .limit)
-unfolding askTable
-ask-heard f q S line e h =
-    let fit : fits (linesIn f) S ≡ true = none-fits (lookupOf f (q .code)) (limitAllowed (q .limit)) _ (λ line. askRefusals (lastAt S line) (q .now)) h in
-    ask-judged f q S line e h ∙ ap (λ (m : Last). judged m (q .now) (q .limit)) (sym (heard-fits S line (linesIn f) fit (line-below f (q .code) line e)))
-
--- an accepted report changes its own place alone
-pub accepted-own : (f : List ℕ) (q : Report) (S : Lists) (line : ℕ) → reportOf f q S ≡ told.Accepted line → OwnPlaceAlone S line (q .level) (q .time) (afterReport f q S)
-unfolding afterReport kept reportTable
-accepted-own f q S line e =
-    let w = report-accepted-exactly f q S line .0 e in
-    let fit : fits (linesIn f) S ≡ true = none-fits (lookupOf f (q .code)) true _ (λ line. reportRefusals (lastAt S line) (q .level) (q .time)) (w .1) in
-    rw e (kept-own S line (q .level) (q .time) (fits-room (linesIn f) S line fit (line-below f (q .code) line (w .0))))
-
--- ---- what the rule of a line gives
-
-module _ (now limit : ℕ) where
-  pub never-of : (m : Last) → answered m now limit ≡ answer.Never → m ≡ NeverHeard
-  unfolding answered first
-  never-of NeverHeard e = refl
-  never-of (Heard y t) e = absurd (go (ltb now t) (leb (now - t) limit) e)
-    where
-      go : (a b : Bool) → cond a (answer.Refused 19 0) (cond b (answer.Fresh y) (answer.Stale y (now - t))) ≢ answer.Never
-      go true b e = let z : _≡_ {A = ℕ} 0 1 = cc in omega arith
-      go false true e = let z : _≡_ {A = ℕ} 0 1 = cc in omega arith
-      go false false e = let z : _≡_ {A = ℕ} 0 1 = cc in omega arith
-
-  pub fresh-of : (m : Last) (z : ℤ) → answered m now limit ≡ answer.Fresh z → (t : ℕ) × (m ≡ Heard z t) × (t ≤ now) × (now - t ≤ limit)
-  unfolding answered first
-  fresh-of NeverHeard z e = absurd (let z : _≡_ {A = ℕ} 0 1 = cc in omega arith)
-  fresh-of (Heard y t) z e = go (ltb now t) (leb (now - t) limit) refl refl e
-    where
-      go : (a b : Bool) → ltb now t ≡ a → leb (now - t) limit ≡ b → cond a (answer.Refused 19 0) (cond b (answer.Fresh y) (answer.Stale y (now - t))) ≡ answer.Fresh z → (u : ℕ) × (Heard y t ≡ Heard z u) × (u ≤ now) × (now - u ≤ limit)
-      go true b p q e = absurd (let z : _≡_ {A = ℕ} 0 1 = cc in omega arith)
-      go false true p q e = let i : y ≡ z = cc in (t, cc, ltb-false now t p, leb-true (now - t) limit q)
-      go false false p q e = absurd (let z : _≡_ {A = ℕ} 0 1 = cc in omega arith)
-
-  pub stale-of : (m : Last) (z : ℤ) (age : ℕ) → answered m now limit ≡ answer.Stale z age → (t : ℕ) × (m ≡ Heard z t) × (t ≤ now) × (limit < age) × (age ≡ now - t)
-  unfolding answered first
-  stale-of NeverHeard z age e = absurd (let z : _≡_ {A = ℕ} 0 1 = cc in omega arith)
-  stale-of (Heard y t) z age e = go (ltb now t) (leb (now - t) limit) refl refl e
-    where
-      go : (a b : Bool) → ltb now t ≡ a → leb (now - t) limit ≡ b → cond a (answer.Refused 19 0) (cond b (answer.Fresh y) (answer.Stale y (now - t))) ≡ answer.Stale z age → (u : ℕ) × (Heard y t ≡ Heard z u) × (u ≤ now) × (limit < age) × (age ≡ now - u)
-      go true b p q e = absurd (let z : _≡_ {A = ℕ} 0 1 = cc in omega arith)
-      go false true p q e = absurd (let z : _≡_ {A = ℕ} 0 1 = cc in omega arith)
-      go false false p q e =
-          let i : y ≡ z = cc in
-          let j : now - t ≡ age = cc in
-          (t, cc, ltb-false now t p, omega (arith, leb-false (now - t) limit q), sym j)
 
 -- ---- a report that was accepted is of a listed code
 
@@ -147,6 +75,42 @@ module _ (f : List ℕ) {n r v : ℕ} (o : headerOf f ≡ opening.Opened n r v) 
   unfolding nothing
   map-is code = map-last f code ks nothing ∙ ap (lastIn code NeverHeard) (sym (log-same f ks (cleared n) nothing (cleared-stands f o)))
 
+  -- a listed code gets through where the limit is right
+  way : (code : List ℕ) (limited : Bool) (line : ℕ) → lookupOf f code ≡ At line → limited ≡ true → entered f code limited true ≡ At line
+  way code limited line e t =
+      let passes : Passes (lookupOf f code) = λ k p d. let i = sym e ∙ d in let z : _≡_ {A = ℕ} 0 1 = cc in omega arith in
+      sym (enter-found f code limited true passes t refl) ∙ e
+
+  -- a report is accepted exactly if its code is listed, its level is in range, and its time is not before that of the last accepted
+  pub accepted-exactly : (q : Report) (line : ℕ) → (reportOf f q lists ≡ told.Accepted line) ↔ ((lookupOf f (q .code) ≡ At line) × (inRange (q .level) ≡ true) × ((d : Report) → LastAccepted (q .code) d entries → d .time ≤ q .time))
+  unfolding mapReport onLine
+  accepted-exactly q line = (λ e. to (entered f (q .code) true true) refl (sym by-last ∙ e), from)
+    where
+      rule : ℕ → Reported
+      rule k = told (last (q .code)) k (q .level) (q .time)
+
+      by-last : reportOf f q lists ≡ onLine told.Refused told.Unknown rule (entered f (q .code) true true)
+      by-last = report-same f lists map stands q ∙ ap (λ (m : Last). onLine told.Refused told.Unknown (λ k. told m k (q .level) (q .time)) (entered f (q .code) true true)) (map-is (q .code))
+
+      in-time : beforeLast (q .time) (last (q .code)) ≡ false → (d : Report) → LastAccepted (q .code) d entries → d .time ≤ q .time
+      in-time h d w = ltb-false (q .time) (d .time) (sym (ap (beforeLast (q .time)) (last-is (q .code) NeverHeard w)) ∙ h)
+
+      not-before : ((d : Report) → LastAccepted (q .code) d entries → d .time ≤ q .time) → (m : Last) → last (q .code) ≡ m → beforeLast (q .time) m ≡ false
+      not-before h NeverHeard i = refl
+      not-before h (Heard z t) i = let l = heard-last (q .code) entries i in le-ltb (q .time) t (omega (arith, h (l .0) (l .1), l .3))
+
+      to : (found : Found) → entered f (q .code) true true ≡ found → onLine told.Refused told.Unknown rule found ≡ told.Accepted line → (lookupOf f (q .code) ≡ At line) × (inRange (q .level) ≡ true) × ((d : Report) → LastAccepted (q .code) d entries → d .time ≤ q .time)
+      to (At k) i e =
+          let w = told-accepted (last (q .code)) k (q .level) (q .time) line .0 e in
+          (entered-in f (q .code) true true k i .found ∙ ap At (w .0), w .1, in-time (w .2))
+      to Unknown i e = absurd (let z : _≡_ {A = ℕ} 0 1 = cc in omega arith)
+      to (Refused k p) i e = absurd (let z : _≡_ {A = ℕ} 0 1 = cc in omega arith)
+
+      from : (lookupOf f (q .code) ≡ At line) × (inRange (q .level) ≡ true) × ((d : Report) → LastAccepted (q .code) d entries → d .time ≤ q .time) → reportOf f q lists ≡ told.Accepted line
+      from w =
+          by-last ∙ ap (onLine told.Refused told.Unknown rule) (way (q .code) true line (w .0) refl)
+          ∙ told-accepted (last (q .code)) line (q .level) (q .time) line .1 (refl, w .1, not-before (w .2) (last (q .code)) refl)
+
   -- what asking gives, by the code's last accepted report
   module _ (q : Question) where
     abbrev right : Bool
@@ -176,10 +140,7 @@ module _ (f : List ℕ) {n r v : ℕ} (o : headerOf f ≡ opening.Opened n r v) 
         go (Refused k p) i e = absurd (d k p e)
 
         back : Says a → askOf f q lists ≡ a
-        back w =
-            let passes : Passes (lookupOf f (q .code)) = λ k p e. let i = sym (w .listed) ∙ e in let z : _≡_ {A = ℕ} 0 1 = cc in omega arith in
-            let way : entered f (q .code) right true ≡ At (w .line) = sym (enter-found f (q .code) right true passes (w .limitRight) refl) ∙ w .listed in
-            ask-by-last ∙ ap (onLine answer.Refused answer.Unknown (λ line. rule)) way ∙ w .byRule
+        back w = ask-by-last ∙ ap (onLine answer.Refused answer.Unknown (λ line. rule)) (way (q .code) right (w .line) (w .listed) (w .limitRight)) ∙ w .byRule
 
     -- what a last accepted report says
     last-says : {a : Answer} (d : Report) → LastAccepted (q .code) d entries → right ≡ true → answered (Heard (d .level) (d .time)) (q .now) (q .limit) ≡ a → Says a

@@ -15,12 +15,14 @@ use Rattle.sign.specs.declared.Reported.{Reported}
 use Rattle.sign.specs.declared.Reported.the-variants as reported
 use Rattle.sign.specs.declared.Answer.{Answer}
 use Rattle.sign.specs.declared.Answer.the-variants as answer
+use Rattle.sign.specs.Levels.{inRange}
 use Rattle.sign.specs.Rules.{Report, Question, limitAllowed, judged}
 use Rattle.sign.specs.Keeping.{Lists, heardAt, cleared}
 use Rattle.sign.specs.KeepingLaws.{OwnPlaceAlone}
 use Rattle.sign.specs.Calls.{reportOf, afterReport, askOf}
 use Rattle.sign.specs.Refusing.{reportTable, askTable}
 use Rattle.sign.specs.RefusingLaws.{report-refused-given, report-accepted-exactly, report-unknown-exactly, ask-refused-given, ask-unknown-exactly}
+use Rattle.sign.specs.AnyListsLaws.{not-kept, accepted-own, ask-heard}
 use Rattle.sign.specs.Trace.{Call, log, after, sign, nothing, plain}
 use Rattle.sign.specs.TraceLaws.{log-same, cleared-stands}
 use Rattle.sign.specs.History.{Entry, NoneAccepted, LastAccepted}
@@ -43,11 +45,11 @@ module _ (f : List ℕ) (S : Lists) where
 
     -- an accepted report changes the four bytes of its line in each list, and no other byte
     pub an-accepted-report-changes-its-own-place-alone : (line : ℕ) → reportOf f q S ≡ reported.Accepted line → OwnPlaceAlone S line (q .level) (q .time) (afterReport f q S)
-    an-accepted-report-changes-its-own-place-alone = laws.accepted-own f q S
+    an-accepted-report-changes-its-own-place-alone = accepted-own f q S
 
     -- an unknown or refused report changes nothing
     pub an-unknown-or-refused-report-changes-nothing : ((line : ℕ) → reportOf f q S ≢ reported.Accepted line) → afterReport f q S ≡ S
-    an-unknown-or-refused-report-changes-nothing = laws.not-kept f q S
+    an-unknown-or-refused-report-changes-nothing = not-kept f q S
 
   module _ (q : Question) where
     -- asking is refused exactly with the first that applies: what looking up refuses, then 22, 23 and 19
@@ -59,7 +61,7 @@ module _ (f : List ℕ) (S : Lists) where
     asking-gives-unknown-exactly-if-the-code-is = ask-unknown-exactly f q S
 
     pub asking-gives-what-the-line-says : (line : ℕ) → lookupOf f (q .code) ≡ found.At line → NoneApplies (askTable f q S) → askOf f q S ≡ judged (heardAt S line) (q .now) (q .limit)
-    asking-gives-what-the-line-says = laws.ask-heard f q S
+    asking-gives-what-the-line-says = ask-heard f q S
 
 -- ---- any calls, one after the other, with any arguments, refused and unknown ones too: from cleared lists on, over one opened file, the lists written by nobody else
 
@@ -74,6 +76,10 @@ module _ (f : List ℕ) (n r v : ℕ) (o : openOf f ≡ opening.Opened n r v) (c
 
   abbrev pub left : Lists
   left = after (sign f) (cleared n) calls
+
+  -- a report is accepted exactly if its code is listed, its level is in range, and its time is not before this code's last accepted one
+  pub accepted-means-exactly : (q : Report) (line : ℕ) → (reportOf f q left ≡ reported.Accepted line) ↔ ((lookupOf f (q .code) ≡ found.At line) × (inRange (q .level) ≡ true) × ((d : Report) → LastAccepted (q .code) d made → d .time ≤ q .time))
+  accepted-means-exactly = laws.accepted-exactly f (what-opens-has-its-header f n r v o) calls
 
   module _ (q : Question) where
     -- Fresh means exactly: this code's last accepted report is at most the limit old, and the level is its own

@@ -2,7 +2,7 @@
 use mathlib.Core.Path.{_≡_, refl, sym, ap, ap₂, _∙_}
 use mathlib.Core.Bool.{Bool, true, false, cond}
 use mathlib.Core.List.{List, [], _∷_}
-use Prim.Native.Nat.{ℕ, _<_}
+use Prim.Native.Nat.{ℕ}
 use native.Mathlib.Omega.{arith}
 use borrow.Author.Tests.{not-false}
 use Rattle.counting.specs.Lists.{same}
@@ -58,7 +58,7 @@ module _ (f : List ℕ) where
     way-same : (code : List ℕ) (limited : Bool) → entered f code limited (fits (linesIn f) S) ≡ entered f code limited true
     way-same code limited = ap (entered f code limited) (s .fitting)
 
-    report-same : (q : Report) → reportOf f q S ≡ mapReport f q M
+    pub report-same : (q : Report) → reportOf f q S ≡ mapReport f q M
     unfolding reportOf mapReport
     report-same q =
         rw (way-same (q .code) true)

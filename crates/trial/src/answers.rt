@@ -1,4 +1,5 @@
 // The answers of the calls, as the second program writes them.
+use crate::levels::size_of;
 use crate::sums::Sums;
 use directory::Built;
 use directory::Found;
@@ -6,6 +7,8 @@ use directory::Opening;
 use directory::PlaceMeaning;
 use directory::RefusalGroup;
 use libc::STDOUT_FILENO;
+use sign::Answer;
+use sign::Reported;
 
 fn write(text: &[u8]) {
     io::write_all(STDOUT_FILENO, text);
@@ -78,14 +81,61 @@ pub fn write_listing(file: &[u8]) {
     write(&text[..size]);
 }
 
+fn write_sums(sums: Sums) {
+    write_number(sums.first);
+    write_number(sums.second);
+}
+
 // The answer of a build, and the checksums of its buffer.
 pub fn write_built(built: Built, sums: Sums) {
     match built {
         Built::Done => write(b"built"),
         Built::Refused(number, place) => write_refused(number, place),
     }
-    write_number(sums.first);
-    write_number(sums.second);
+    write_sums(sums);
+    write(b"\n");
+}
+
+// The answer of a report, and the checksums of its two lists.
+pub fn write_reported(told: Reported, levels: Sums, times: Sums) {
+    match told {
+        Reported::Accepted(line) => {
+            write(b"accepted");
+            write_number(line as u64);
+        }
+        Reported::Unknown => write(b"unknown"),
+        Reported::Refused(number, place) => write_refused(number, place),
+    }
+    write_sums(levels);
+    write_sums(times);
+    write(b"\n");
+}
+
+// A blank and a level, with a minus before it where it is below zero.
+fn write_level(level: i32) {
+    if level < 0 {
+        write(b" -");
+    } else {
+        write(b" ");
+    }
+    io::print_decimal(STDOUT_FILENO, size_of(level));
+}
+
+pub fn write_asked(answer: Answer) {
+    match answer {
+        Answer::Never => write(b"never"),
+        Answer::Fresh(level) => {
+            write(b"fresh");
+            write_level(level);
+        }
+        Answer::Stale(level, age) => {
+            write(b"stale");
+            write_level(level);
+            write_number(age as u64);
+        }
+        Answer::Unknown => write(b"unknown"),
+        Answer::Refused(number, place) => write_refused(number, place),
+    }
     write(b"\n");
 }
 
@@ -100,6 +150,7 @@ fn write_group(group: RefusalGroup) {
         RefusalGroup::Building => write(b"group building"),
         RefusalGroup::Opening => write(b"group opening"),
         RefusalGroup::LookingUp => write(b"group looking-up"),
+        RefusalGroup::Sign => write(b"group sign"),
         RefusalGroup::NoRefusal => write(b"group none"),
     }
 }

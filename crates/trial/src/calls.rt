@@ -9,10 +9,12 @@ use crate::answers::write_refusal;
 use crate::answers::write_shown;
 use crate::digits::NO_DIGIT;
 use crate::held::beginning;
-use crate::held::clear;
 use crate::held::count_up;
 use crate::held::first_of;
+use crate::held::resize;
 use crate::reading::Trial;
+use crate::signs::call_sign;
+use crate::signs::change_lists;
 use crate::sums::sums_of;
 
 // The largest number of one byte.
@@ -25,9 +27,9 @@ const NO_VECTOR: usize = 4;
 fn fields(letter: u8) -> usize {
     match letter {
         b'O' | b'H' | b'T' | b'D' => 0,
-        b'C' | b'F' | b'Z' | b'S' | b'G' => 1,
-        b'P' => 2,
-        b'N' | b'B' => 3,
+        b'C' | b'F' | b'Z' | b'S' | b'G' | b'K' | b'V' | b'U' => 1,
+        b'P' | b'X' | b'Y' => 2,
+        b'N' | b'B' | b'A' | b'Q' => 3,
         _ => NO_VECTOR,
     }
 }
@@ -52,17 +54,6 @@ fn whole(trial: Trial) -> bool {
     has_fields(trial.letter, trial.blanks)
 }
 
-// Cuts bytes, or lengthens them with zeros; their length is given back.
-fn resize(length: usize, wanted: u64, bytes: &mut [u8]) -> usize {
-    let to = wanted as usize;
-    if bytes.len() < to {
-        write_bad();
-        return length;
-    }
-    clear(bytes, length, to);
-    to
-}
-
 // Makes the bytes count up, if the first fits a byte.
 fn colour(length: usize, wanted: u64, bytes: &mut [u8]) {
     if MOST_NUMBER < wanted {
@@ -82,7 +73,7 @@ fn refusal(wanted: u64) {
     write_refusal(reader::group_of(number), reader::meaning_of(number));
 }
 
-// The call that a vector asks for. P asks for none: its bytes are in the file already.
+// The call that a vector asks for. P, X and Y ask for none: their bytes are in the file and the lists already.
 fn call(trial: Trial, file: &[u8], code: &[u8]) {
     let letter = trial.letter;
     match letter {
@@ -154,6 +145,8 @@ fn done(
     run: &mut [u8],
     ends: &[u16],
     weights: &[u16],
+    levels: &mut [u8],
+    times: &mut [u8],
 ) -> Trial {
     let letter = trial.letter;
     if letter == b'#' {
@@ -166,6 +159,17 @@ fn done(
     match letter {
         b'C' | b'F' | b'R' | b'Z' | b'E' | b'W' => change(trial, file, run),
         b'B' => build_in_file(trial, file, run, ends, weights),
+        b'K' | b'V' | b'U' => change_lists(trial, levels, times),
+        b'A' | b'Q' => {
+            call_sign(
+                trial,
+                beginning(file, trial.length),
+                beginning(code, trial.count),
+                levels,
+                times,
+            );
+            trial
+        }
         _ => {
             call(trial, beginning(file, trial.length), code);
             trial
@@ -182,9 +186,11 @@ pub fn step(
     run: &mut [u8],
     ends: &mut [u16],
     weights: &mut [u16],
+    levels: &mut [u8],
+    times: &mut [u8],
 ) -> Trial {
     if byte == b'\n' {
-        return done(trial, file, code, run, ends, weights).next();
+        return done(trial, file, code, run, ends, weights, levels, times).next();
     }
-    trial.read(byte, file, code, run, ends, weights)
+    trial.read(byte, file, code, run, ends, weights, levels, times)
 }

@@ -1,13 +1,16 @@
-// The trial of the reader and the builder: reads vectors on standard input (second/src/vectors.rs says what they are), makes the calls, and writes the answers.
+// The trial of the reader, the builder and the sign: reads vectors on standard input (second/src/vectors.rs says what they are), makes the calls, and writes the answers.
 mod digits; // digits.rt: digits, and numbers made of them
+mod levels; // levels.rt: levels as they are written
 mod held; // held.rt: what vectors hold
 mod reading; // reading.rt: vectors, byte by byte
+mod signs; // signs.rt: what vectors of the sign ask for
 mod calls; // calls.rt: what vectors ask for
 mod sums; // sums.rt: checksums of a buffer
 mod answers; // answers.rt: the answers
 
 use calls::step;
 use held::no_ends;
+use held::no_list;
 use held::no_weights;
 use libc::STDIN_FILENO;
 use reading::Trial;
@@ -25,15 +28,46 @@ fn go_through(
     run: &mut [u8],
     ends: &mut [u16],
     weights: &mut [u16],
+    levels: &mut [u8],
+    times: &mut [u8],
 ) -> Trial {
     let mut trial = from;
     let mut i = 0;
     while i < piece.len() {
         let byte = piece[i];
         i += 1;
-        trial = step(trial, byte, file, code, run, ends, weights);
+        trial = step(trial, byte, file, code, run, ends, weights, levels, times);
     }
     trial
+}
+
+// Goes through the next piece of standard input; where there is none, the trial has ended.
+fn go_through_next(
+    from: Trial,
+    piece: &mut [u8],
+    file: &mut [u8],
+    code: &mut [u8],
+    run: &mut [u8],
+    ends: &mut [u16],
+    weights: &mut [u16],
+    levels: &mut [u8],
+    times: &mut [u8],
+) -> Trial {
+    let n = io::read_full(STDIN_FILENO, piece);
+    if n == 0 {
+        return from.end();
+    }
+    go_through(
+        from,
+        &piece[..n],
+        file,
+        code,
+        run,
+        ends,
+        weights,
+        levels,
+        times,
+    )
 }
 
 // Goes through standard input, piece by piece.
@@ -44,16 +78,17 @@ fn go_on(
     run: &mut [u8],
     ends: &mut [u16],
     weights: &mut [u16],
+    levels: &mut [u8],
+    times: &mut [u8],
 ) {
     let mut trial = start();
     let mut pieces = MOST_PIECES;
     while 0 < pieces {
-        let n = io::read_full(STDIN_FILENO, piece);
-        if n == 0 {
+        pieces -= 1;
+        trial = go_through_next(trial, piece, file, code, run, ends, weights, levels, times);
+        if trial.ended {
             return;
         }
-        trial = go_through(trial, &piece[..n], file, code, run, ends, weights);
-        pieces -= 1;
     }
 }
 
@@ -64,6 +99,8 @@ fn main() {
     let mut run = io::large_buffer();
     let mut ends = no_ends();
     let mut weights = no_weights();
+    let mut levels = no_list();
+    let mut times = no_list();
     go_on(
         &mut piece,
         &mut file,
@@ -71,5 +108,7 @@ fn main() {
         &mut run,
         &mut ends,
         &mut weights,
+        &mut levels,
+        &mut times,
     );
 }

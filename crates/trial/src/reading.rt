@@ -16,11 +16,13 @@ const MOST_LISTED: u64 = 65535;
 
 // Where the trial stands: what is held, and what is read of a vector.
 pub struct Trial {
-    // The lengths of the file and of the run, and how many ends and weights there are.
+    // The lengths of the file and of the run, how many ends and weights there are, and the lengths of the sign's lists.
     pub length: usize,
     pub run: usize,
     pub ends: usize,
     pub weights: usize,
+    pub levels: usize,
+    pub times: usize,
     pub letter: u8,
     // The blanks, each before a field.
     pub blanks: usize,
@@ -32,8 +34,12 @@ pub struct Trial {
     pub high: u8,
     // The bytes of a code or a run so far.
     pub count: usize,
+    // Whether a level has a minus before it.
+    pub minus: bool,
     // Whether something was read that no vector has.
     pub bad: bool,
+    // Whether there are no more vectors.
+    pub ended: bool,
 }
 
 // Before the first vector.
@@ -43,6 +49,8 @@ pub fn start() -> Trial {
         run: 0,
         ends: 0,
         weights: 0,
+        levels: 0,
+        times: 0,
         letter: NO_LETTER,
         blanks: 0,
         first: 0,
@@ -50,15 +58,25 @@ pub fn start() -> Trial {
         last: 0,
         high: NO_DIGIT,
         count: 0,
+        minus: false,
         bad: false,
+        ended: false,
     }
 }
 
-// Whether a field of a vector holds bytes: that of L and of R, and the second one of P.
+// Whether a field of a vector holds bytes: that of L and of R, the first one of A and Q, and the second one of P, X and Y.
 fn holds_bytes(letter: u8, blanks: usize) -> bool {
     match letter {
-        b'L' | b'R' => blanks == 1,
-        b'P' => blanks == 2,
+        b'L' | b'R' | b'A' | b'Q' => blanks == 1,
+        b'P' | b'X' | b'Y' => blanks == 2,
+        _ => false,
+    }
+}
+
+// Whether a field of a vector holds a level, which may have a minus before it: the second one of A.
+fn holds_level(letter: u8, blanks: usize) -> bool {
+    match letter {
+        b'A' => blanks == 2,
         _ => false,
     }
 }
@@ -73,7 +91,14 @@ impl Trial {
         self.last = 0;
         self.high = NO_DIGIT;
         self.count = 0;
+        self.minus = false;
         self.bad = false;
+        self
+    }
+
+    // After the last vector.
+    pub fn end(mut self) -> Trial {
+        self.ended = true;
         self
     }
 
@@ -106,22 +131,30 @@ impl Trial {
         self
     }
 
-    // A byte of the file, at the place that the number before it names.
-    fn byte_of_file(mut self, byte: u8, file: &mut [u8]) -> Trial {
+    // A byte of the file or of a list that is so long, at the place that the number before it names.
+    fn byte_at(mut self, byte: u8, length: usize, bytes: &mut [u8]) -> Trial {
         let at = self.second as usize;
-        if self.length <= at {
+        if length <= at {
             return self.spoilt();
         }
-        if file.len() <= at {
+        if bytes.len() <= at {
             return self.spoilt();
         }
-        file[at] = byte;
+        bytes[at] = byte;
         self.second = at as u64 + 1;
         self
     }
 
     // A hex digit: the second of a byte puts it where it belongs.
-    fn hex_digit(mut self, digit: u8, file: &mut [u8], code: &mut [u8], run: &mut [u8]) -> Trial {
+    fn hex_digit(
+        mut self,
+        digit: u8,
+        file: &mut [u8],
+        code: &mut [u8],
+        run: &mut [u8],
+        levels: &mut [u8],
+        times: &mut [u8],
+    ) -> Trial {
         let high = self.high;
         if high == NO_DIGIT {
             self.high = digit;
@@ -131,9 +164,11 @@ impl Trial {
         let byte = byte_of(high, digit);
         let letter = self.letter;
         match letter {
-            b'L' => self.byte_after(byte, code),
+            b'L' | b'A' | b'Q' => self.byte_after(byte, code),
             b'R' => self.byte_after(byte, run),
-            _ => self.byte_of_file(byte, file),
+            b'X' => self.byte_at(byte, self.levels, levels),
+            b'Y' => self.byte_at(byte, self.times, times),
+            _ => self.byte_at(byte, self.length, file),
         }
     }
 
@@ -165,6 +200,21 @@ impl Trial {
         }
     }
 
+    // What is no digit: a minus before a level, or nothing that a vector has.
+    fn no_digit(mut self, byte: u8) -> Trial {
+        if byte != b'-' {
+            return self.spoilt();
+        }
+        if self.minus {
+            return self.spoilt();
+        }
+        if !holds_level(self.letter, self.blanks) {
+            return self.spoilt();
+        }
+        self.minus = true;
+        self
+    }
+
     // A byte of a field.
     fn field(
         self,
@@ -174,18 +224,20 @@ impl Trial {
         run: &mut [u8],
         ends: &mut [u16],
         weights: &mut [u16],
+        levels: &mut [u8],
+        times: &mut [u8],
     ) -> Trial {
         let value = digit(byte);
         if holds_bytes(self.letter, self.blanks) {
             if value < NO_DIGIT {
-                return self.hex_digit(value, file, code, run);
+                return self.hex_digit(value, file, code, run, levels, times);
             }
             return self.spoilt();
         }
         if value < DECIMAL {
             return self.decimal_digit(value, ends, weights);
         }
-        self.spoilt()
+        self.no_digit(byte)
     }
 
     // A byte of a vector, any but the newline.
@@ -197,6 +249,8 @@ impl Trial {
         run: &mut [u8],
         ends: &mut [u16],
         weights: &mut [u16],
+        levels: &mut [u8],
+        times: &mut [u8],
     ) -> Trial {
         let letter = self.letter;
         if letter == NO_LETTER {
@@ -209,6 +263,6 @@ impl Trial {
         if byte == b' ' {
             return self.blank();
         }
-        self.field(byte, file, code, run, ends, weights)
+        self.field(byte, file, code, run, ends, weights, levels, times)
     }
 }

@@ -5,7 +5,7 @@ use std::ffi::{OsStr, OsString};
 use std::time::{SystemTime, UNIX_EPOCH};
 
 /// The random calls and the seed where none are given.
-const CALLS: u64 = 50_000;
+const CALLS: u64 = 100_000;
 const SEED: u64 = 1;
 
 /// The word for a seed that is drawn from the time.

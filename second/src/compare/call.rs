@@ -1,20 +1,44 @@
 //! One call with all that it is lent: what a program gives, and the call written as vectors, so that it can be
 //! repeated.
 
-use super::calls::{Calls, DsAnswer, DsFound, DsOpened, DsPart};
+use super::calls::{Calls, DsAnswer, DsAsked, DsFound, DsOpened, DsPart, DsReported};
 use crate::vectors::inputs::Input;
 use crate::vectors::script::Script;
+use crate::vectors::traces::SignCall;
 
-/// A call. The buffer of a build is lent with these bytes in it.
+/// The levels and the times of a sign.
+pub type Lists = [Vec<u8>; 2];
+
+/// A call. The buffer of a build and the lists of a sign are lent with these bytes in them.
 pub enum Call<'a> {
-    Length { n: usize, r: usize, v: usize },
-    Build { input: &'a Input, buffer: &'a [u8] },
-    Open { file: &'a [u8] },
-    Lookup { file: &'a [u8], code: &'a [u8] },
-    Show { file: &'a [u8], line: usize },
+    Length {
+        n: usize,
+        r: usize,
+        v: usize,
+    },
+    Build {
+        input: &'a Input,
+        buffer: &'a [u8],
+    },
+    Open {
+        file: &'a [u8],
+    },
+    Lookup {
+        file: &'a [u8],
+        code: &'a [u8],
+    },
+    Show {
+        file: &'a [u8],
+        line: usize,
+    },
+    Sign {
+        file: &'a [u8],
+        call: &'a SignCall,
+        lists: &'a Lists,
+    },
 }
 
-/// What a call gives: every number of its answer, and every byte of the buffer.
+/// What a call gives: every number of its answer, and every byte of the buffer or of the lists.
 #[derive(Debug, PartialEq, Eq)]
 pub enum Given {
     Length(usize),
@@ -22,6 +46,8 @@ pub enum Given {
     Opened(DsOpened),
     Found(DsFound),
     Part(DsPart),
+    Reported(DsReported, Lists),
+    Asked(DsAsked, Lists),
 }
 
 impl Call<'_> {
@@ -38,6 +64,7 @@ impl Call<'_> {
             Call::Open { file } => Given::Opened(program.open(file)),
             Call::Lookup { file, code } => Given::Found(program.lookup(file, code)),
             Call::Show { file, line } => Given::Part(program.show(file, line)),
+            Call::Sign { file, call, lists } => given_by_sign(program, file, call, lists.clone()),
         }
     }
 
@@ -63,28 +90,62 @@ impl Call<'_> {
                 script.file(file);
                 script.show(line as u64);
             }
+            Call::Sign { file, call, lists } => {
+                script.file(file);
+                script.lists(&lists[0], &lists[1]);
+                script.sign_call(call);
+            }
         }
         script.text()
     }
 }
 
+/// What a program gives to a call of the sign, with the lists as it leaves them.
+fn given_by_sign(program: &dyn Calls, file: &[u8], call: &SignCall, mut lists: Lists) -> Given {
+    let [levels, times] = &mut lists;
+    match call {
+        SignCall::Report(code, report) => {
+            let answer = program.report(file, code, *report, levels, times);
+            Given::Reported(answer, lists)
+        }
+        SignCall::Ask { code, now, limit } => {
+            let answer = program.ask(file, code, *now, *limit, levels, times);
+            Given::Asked(answer, lists)
+        }
+    }
+}
+
 impl Given {
-    /// The answer in words; of a buffer, its first byte that is not the other's.
+    /// The answer in words; of a buffer and of lists, the first byte that is not the other's.
     pub fn words(&self, other: &Given) -> String {
         match (self, other) {
             (Given::Built(answer, buffer), Given::Built(_, others)) => {
-                let differs = (0..buffer.len()).find(|&place| buffer[place] != others[place]);
-                match differs {
-                    Some(place) => {
-                        format!(
-                            "{answer:?}, byte {place} of the buffer {:02x}",
-                            buffer[place]
-                        )
-                    }
-                    None => format!("{answer:?}, the buffers are equal"),
-                }
+                format!("{answer:?}, {}", difference("the buffer", buffer, others))
+            }
+            (Given::Reported(answer, lists), Given::Reported(_, others)) => {
+                format!("{answer:?}, {}", differences(lists, others))
+            }
+            (Given::Asked(answer, lists), Given::Asked(_, others)) => {
+                format!("{answer:?}, {}", differences(lists, others))
             }
             _ => format!("{self:?}"),
         }
+    }
+}
+
+fn differences([levels, times]: &Lists, [other_levels, other_times]: &Lists) -> String {
+    [
+        difference("the levels", levels, other_levels),
+        difference("the times", times, other_times),
+    ]
+    .join(", ")
+}
+
+/// The first byte that is not the other's.
+fn difference(what: &str, bytes: &[u8], others: &[u8]) -> String {
+    let differs = (0..bytes.len()).find(|&place| bytes[place] != others[place]);
+    match differs {
+        Some(place) => format!("byte {place} of {what} {:02x}", bytes[place]),
+        None => format!("{what} equal"),
     }
 }

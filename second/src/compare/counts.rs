@@ -1,7 +1,7 @@
 //! How often each call was made and each answer was given, so that a reader sees that every one occurred.
 
 use super::call::Given;
-use super::calls::UNKNOWN;
+use super::calls::{FRESH, NEVER, STALE, UNKNOWN};
 use std::collections::BTreeMap;
 use std::ops::RangeInclusive;
 
@@ -38,7 +38,17 @@ const SHOW: Kind = Kind {
     answers: &["shown", "nothing"],
     refusals: &[],
 };
-const KINDS: [Kind; 5] = [LENGTH, BUILD, OPEN, LOOKUP, SHOW];
+const REPORT: Kind = Kind {
+    name: "report",
+    answers: &["accepted", "unknown"],
+    refusals: &[9..=11, 13..=13, 16..=18, 23..=23],
+};
+const ASK: Kind = Kind {
+    name: "ask",
+    answers: &["never", "fresh", "stale", "unknown"],
+    refusals: &[9..=11, 13..=13, 16..=16, 19..=19, 22..=23],
+};
+const KINDS: [Kind; 7] = [LENGTH, BUILD, OPEN, LOOKUP, SHOW, REPORT, ASK];
 
 impl Kind {
     /// Every answer that the call can give, in words.
@@ -65,6 +75,19 @@ impl Counts {
             Given::Opened(opened) => (OPEN, opened.number, 0),
             Given::Found(found) => (LOOKUP, found.number, usize::from(found.kind == UNKNOWN)),
             Given::Part(part) => (SHOW, 0, usize::from(part.length == 0)),
+            Given::Reported(reported, _) => {
+                let answer = usize::from(reported.kind == UNKNOWN);
+                (REPORT, reported.number, answer)
+            }
+            Given::Asked(asked, _) => {
+                let answer = match asked.kind {
+                    NEVER => 0,
+                    FRESH => 1,
+                    STALE => 2,
+                    _ => 3,
+                };
+                (ASK, asked.number, answer)
+            }
         };
         let words = match number {
             0 => kind.answers[answer].to_string(),

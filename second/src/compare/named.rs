@@ -4,13 +4,14 @@
 use super::call::{Call, Given};
 use super::Comparison;
 use crate::text::decimal;
-use crate::trial::{bytes_asked, change, resize, Held};
+use crate::trial::{bytes_asked, change, resize, signs::call, Held};
 use crate::vectors::inputs::Input;
-use crate::vectors::{builds, vectors};
+use crate::vectors::{builds, signs, vectors};
 
 pub fn compare(comparison: &mut Comparison, seed: u64) -> Result<(), String> {
     let mut held = Held::default();
-    for line in [vectors(seed, 0), builds(seed, 0)].concat().lines() {
+    let named = [vectors(seed, 0), builds(seed, 0), signs(seed, 0)];
+    for line in named.concat().lines() {
         vector(comparison, line, &mut held)
             .unwrap_or_else(|| Err(format!("this is no vector: `{line}`")))?;
     }
@@ -26,6 +27,7 @@ fn vector(comparison: &mut Comparison, line: &str, held: &mut Held) -> Option<Re
         // Words, and what is not a call of the library: headers alone, listings, bytes and groups.
         (b"#" | b"H" | b"T" | b"D" | b"G", _) => return Some(Ok(())),
         (b"B", [r, v, length]) => return build(comparison, held, [r, v, length]),
+        (b"A" | b"Q", fields) => return sign(comparison, held, letter, fields),
         (b"O", []) => comparison.ask(&Call::Open { file }),
         (b"L", code) => {
             let code = &bytes_asked(code)?;
@@ -67,6 +69,25 @@ fn build(
     Some(asked.map(|given| {
         if let Given::Built(_, buffer) = given {
             held.file = buffer;
+        }
+    }))
+}
+
+/// Makes a call of the sign with the lists that are held.
+fn sign(
+    comparison: &mut Comparison,
+    held: &mut Held,
+    letter: &[u8],
+    fields: &[&[u8]],
+) -> Option<Result<(), String>> {
+    let asked = comparison.ask(&Call::Sign {
+        file: &held.file,
+        call: &call(letter, fields)?,
+        lists: &[held.levels.clone(), held.times.clone()],
+    });
+    Some(asked.map(|given| {
+        if let Given::Reported(_, lists) = given {
+            [held.levels, held.times] = lists;
         }
     }))
 }

@@ -1,9 +1,9 @@
 //! A round of random calls: a length, a build, and around the file that it leaves, or around a stranger's, every call
-//! of reading, with the file as it is, damaged, and with other lengths.
+//! of reading and of the sign, with the file as it is, damaged, and with other lengths.
 
 use super::call::{Call, Given};
 use super::calls::DsAnswer;
-use super::{files, lists, Comparison};
+use super::{files, lists, signs, Comparison};
 use crate::header::{checked_header, Header};
 use crate::random::Random;
 use crate::sizes::LONGEST_CODE;
@@ -88,8 +88,12 @@ fn around(
     comparison.ask(&Call::Open { file })?;
     look_up(comparison, random, file, listed)?;
     show(comparison, random, file, &header)?;
+    let some_listed = some(listed, MOST_CODES_ASKED, random);
+    signs::trace(comparison, random, file, &header, &some_listed)?;
+    signs::single_calls(comparison, random, file, &header, &some_listed)?;
     for copy in files::copies(file, &header, random) {
         read(comparison, random, &copy, &header, listed)?;
+        signs::single_calls(comparison, random, &copy, &header, &some_listed)?;
     }
     Ok(())
 }

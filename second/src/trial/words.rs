@@ -4,6 +4,7 @@ use super::checksums::checksums;
 use crate::header::Header;
 use crate::listing::refused;
 use crate::refusals::{group, meaning, Group, Meaning};
+use crate::sign::{Asked, Reported};
 use crate::text::hex;
 use crate::{Found, Refusal};
 
@@ -36,8 +37,33 @@ pub fn built(answer: Result<(), Refusal>, buffer: &[u8]) -> String {
         Ok(()) => "built".to_string(),
         Err(refusal) => refused(&refusal),
     };
-    let [first, second] = checksums(buffer);
-    format!("{words} {first} {second}")
+    words + &summed(buffer)
+}
+
+/// The two checksums of bytes, each behind a blank.
+fn summed(bytes: &[u8]) -> String {
+    let [first, second] = checksums(bytes);
+    format!(" {first} {second}")
+}
+
+/// The answer to a report, and the checksums of the two lists as the report has left them.
+pub fn reported(answer: Result<Reported, Refusal>, levels: &[u8], times: &[u8]) -> String {
+    let words = match answer {
+        Ok(Reported::Accepted(line)) => format!("accepted {line}"),
+        Ok(Reported::Unknown) => "unknown".to_string(),
+        Err(refusal) => refused(&refusal),
+    };
+    words + &summed(levels) + &summed(times)
+}
+
+pub fn asked(answer: Result<Asked, Refusal>) -> String {
+    match answer {
+        Ok(Asked::Never) => "never".to_string(),
+        Ok(Asked::Fresh { level }) => format!("fresh {level}"),
+        Ok(Asked::Stale { level, age }) => format!("stale {level} {age}"),
+        Ok(Asked::Unknown) => "unknown".to_string(),
+        Err(refusal) => refused(&refusal),
+    }
 }
 
 pub fn grouped(number: u8) -> String {
@@ -45,6 +71,7 @@ pub fn grouped(number: u8) -> String {
         Group::Building => "building",
         Group::Opening => "opening",
         Group::LookingUp => "looking-up",
+        Group::Sign => "sign",
         Group::None => "none",
     };
     let meaning = match meaning(number) {

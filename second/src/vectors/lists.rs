@@ -67,7 +67,7 @@ fn calls(script: &mut Script, random: &mut Random, file: &[u8], codes: &[Vec<u8>
 }
 
 /// A list that builds. Codes, sizes and weights are tried until there is one.
-fn list(random: &mut Random) -> (Vec<Vec<u8>>, Vec<u8>) {
+pub fn list(random: &mut Random) -> (Vec<Vec<u8>>, Vec<u8>) {
     loop {
         let codes = different_codes(1 + random.index(MOST), random);
         let r = 2 + random.below(2);
@@ -150,7 +150,7 @@ pub fn strangers_list(random: &mut Random) -> (Vec<Vec<u8>>, Vec<u8>) {
 }
 
 /// Changes one byte, in any record alike.
-fn damage(file: &mut [u8], random: &mut Random) {
+pub fn damage(file: &mut [u8], random: &mut Random) {
     let place = place(file, random);
     file[place] = changed_byte(file[place], random);
 }

@@ -1,17 +1,16 @@
-//! The text of the vectors: what turns one file into the next, what is lent to a build, and the
-//! calls.
+//! The text of the vectors: what turns one file or list into the next, what is lent to a build, and
+//! the calls.
+
+mod changes;
 
 use super::inputs::Input;
+use super::traces::SignCall;
+use crate::sign::{report, Report};
 use crate::text::hex;
 use crate::Refusal;
+use changes::{of_a_file, of_lists, MOST_OF_A_LINE};
 
-/// The most bytes that one line puts into the file.
-const MOST_OF_A_LINE: usize = 64;
-/// Bytes that are right already are sent again where fewer than this stand between wrong ones:
-/// that is shorter than another line.
-const GAP: usize = 5;
-
-/// The vectors so far, and what they leave: the file, and what is lent to a build.
+/// The vectors so far, and what they leave: the file, what is lent to a build, and the sign's lists.
 #[derive(Default)]
 pub struct Script {
     text: String,
@@ -19,6 +18,8 @@ pub struct Script {
     run: Vec<u8>,
     ends: Vec<u16>,
     weights: Vec<u16>,
+    levels: Vec<u8>,
+    times: Vec<u8>,
 }
 
 impl Script {
@@ -40,16 +41,49 @@ impl Script {
         self.line("C 0");
     }
 
+    /// Empties the lists too.
+    pub fn start_lists(&mut self) {
+        self.line("K 0");
+    }
+
     /// Makes the file these bytes, by the shorter of two ways: from what it is, or from nothing.
     pub fn file(&mut self, wanted: &[u8]) {
-        let from_this = changes(&self.file, wanted);
-        let from_nothing = changes(&self.file, &[]) + &changes(&[], wanted);
-        self.text += if from_this.len() <= from_nothing.len() {
-            &from_this
-        } else {
-            &from_nothing
-        };
+        self.text += &of_a_file(&self.file, wanted);
         self.file = wanted.to_vec();
+    }
+
+    /// Makes the lists of levels and times these bytes, by the shorter of two ways: from what they are, or from
+    /// cleared lists.
+    pub fn lists(&mut self, levels: &[u8], times: &[u8]) {
+        self.text += &of_lists([&self.levels, &self.times], [levels, times]);
+        self.levels = levels.to_vec();
+        self.times = times.to_vec();
+    }
+
+    /// The levels and the times as the vectors leave them.
+    pub fn lists_left(&self) -> [Vec<u8>; 2] {
+        [self.levels.clone(), self.times.clone()]
+    }
+
+    /// Makes a call of the sign. The lists are left as a report leaves them.
+    pub fn sign_call(&mut self, call: &SignCall) {
+        match call {
+            SignCall::Report(code, brought) => {
+                let Report { level, time } = brought;
+                self.line(&format!("A {} {level} {time}", hex(code)));
+                // The answer is the trial's to write; here the lists alone are wanted.
+                let _ = report(
+                    &self.file,
+                    code,
+                    *brought,
+                    &mut self.levels,
+                    &mut self.times,
+                );
+            }
+            SignCall::Ask { code, now, limit } => {
+                self.line(&format!("Q {} {now} {limit}", hex(code)));
+            }
+        }
     }
 
     /// The file as the vectors leave it.
@@ -153,29 +187,4 @@ fn numbers(letter: &str, numbers: &[u16]) -> String {
         line += &format!(" {number}");
     }
     line
-}
-
-/// The lines that turn a file into the one that is wanted: its length first, then its bytes.
-fn changes(file: &[u8], wanted: &[u8]) -> String {
-    let mut text = String::new();
-    let mut file = file.to_vec();
-    if file.len() != wanted.len() {
-        file.resize(wanted.len(), 0);
-        text += &format!("C {}\n", wanted.len());
-    }
-    let wrong: Vec<usize> = (0..file.len()).filter(|&i| file[i] != wanted[i]).collect();
-    let mut rest = &wrong[..];
-    while let Some(&start) = rest.first() {
-        let mut taken = 1;
-        while taken < rest.len()
-            && rest[taken] - rest[taken - 1] <= GAP
-            && rest[taken] - start < MOST_OF_A_LINE
-        {
-            taken += 1;
-        }
-        let end = rest[taken - 1] + 1;
-        text += &format!("P {start} {}\n", hex(&wanted[start..end]));
-        rest = &rest[taken..];
-    }
-    text
 }

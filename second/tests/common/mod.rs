@@ -2,7 +2,10 @@
 //! list and file, and lists of the most codes. Each test file uses a part of it.
 #![allow(dead_code)]
 
+pub mod checksums;
+pub mod meaning;
 pub mod sections;
+pub mod signs;
 
 use second::text::run_and_ends;
 use second::{build, length, open, CodeList, Header, Refusal};

@@ -3,7 +3,7 @@
 use second::trial::each_answer;
 
 /// The letters of vectors that change what is held and have no answer.
-const CHANGES: [char; 7] = ['C', 'P', 'F', 'R', 'Z', 'E', 'W'];
+const CHANGES: [char; 12] = ['C', 'P', 'F', 'R', 'Z', 'E', 'W', 'K', 'V', 'U', 'X', 'Y'];
 
 /// Calls with their answers, in order, under the comment that stands before them.
 pub struct Section {

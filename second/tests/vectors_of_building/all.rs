@@ -1,6 +1,7 @@
 //! What all vectors of building have to hold: every answer often, at both arities, and every byte
 //! of the buffer.
 
+use crate::common::checksums::checksums;
 use crate::common::sections::kind;
 use crate::{sections, text};
 use second::length;
@@ -54,15 +55,6 @@ fn lists_at_random() {
         assert_often(&counts, "refused 6", arity, 6);
         assert_often(&counts, "refused 7", arity, 6);
     }
-}
-
-/// The rule of the checksums once more: a factor for each byte, the byte and 1, mod 2^32 - 5.
-fn checksums(bytes: &[u8]) -> [u128; 2] {
-    [257, 65_537].map(|factor| {
-        bytes.iter().fold(0, |sum, &byte| {
-            (sum * factor + u128::from(byte) + 1) % ((1 << 32) - 5)
-        })
-    })
 }
 
 /// By hand: 2·257 + 3 and 2·65,537 + 3; 257^2 + 257 + 1 and 65,537^2 + 65,537 + 1, which is

@@ -6,10 +6,10 @@ use Rattle.trial.proofs.go_on.Statement.{statement}
 use Rattle.trial.proofs.go_on.Tie as tie
 
 abbrev Inv-loop : tie.InvT-loop
-Inv-loop piece₀ file₀ code₀ run₀ ends₀ weights₀ trial₀ pieces₀ piece file code run ends weights trial pieces = (length piece ≡ length piece₀) × (length file ≡ length file₀) × (length code ≡ length code₀) × (length run ≡ length run₀) × (length ends ≡ length ends₀) × (length weights ≡ length weights₀)
+Inv-loop piece₀ file₀ code₀ run₀ ends₀ weights₀ levels₀ times₀ trial₀ pieces₀ piece file code run ends weights levels times trial pieces = (length piece ≡ length piece₀) × (length file ≡ length file₀) × (length code ≡ length code₀) × (length run ≡ length run₀) × (length ends ≡ length ends₀) × (length weights ≡ length weights₀) × (length levels ≡ length levels₀) × (length times ≡ length times₀)
 
 abbrev μ-loop : tie.MeasureT-loop
-μ-loop piece₀ file₀ code₀ run₀ ends₀ weights₀ trial₀ pieces₀ piece file code run ends weights trial pieces = pieces
+μ-loop piece₀ file₀ code₀ run₀ ends₀ weights₀ levels₀ times₀ trial₀ pieces₀ piece file code run ends weights levels times trial pieces = pieces
 
 start-requires : tie.Need-start-requires Inv-loop μ-loop
 start-requires c κs = search needs
@@ -17,8 +17,11 @@ start-requires c κs = search needs
 loop-holds : tie.Need-loop-holds Inv-loop μ-loop
 loop-holds c = search needs
 
-read-full-requires : tie.Need-read-full-requires Inv-loop μ-loop
-read-full-requires c κs = search needs
+sub-pieces : tie.Need-sub-pieces Inv-loop μ-loop
+sub-pieces c = search needs
+
+go-through-next-requires : tie.Need-go-through-next-requires Inv-loop μ-loop
+go-through-next-requires c κs = search needs
 
 same-length : tie.Need-same-length Inv-loop μ-loop
 same-length c = search needs
@@ -38,32 +41,20 @@ same-length-5 c = search needs
 same-length-6 : tie.Need-same-length-6 Inv-loop μ-loop
 same-length-6 c = search needs
 
+same-length-7 : tie.Need-same-length-7 Inv-loop μ-loop
+same-length-7 c = search needs
+
+same-length-8 : tie.Need-same-length-8 Inv-loop μ-loop
+same-length-8 c = search needs
+
 returns : tie.Need-returns Inv-loop μ-loop
 returns c = search needs
-
-slice-reshare-prefix-go-through : tie.Need-slice-reshare-prefix-go-through Inv-loop μ-loop
-slice-reshare-prefix-go-through c = search needs
-
-slice-aggregate-go-through : tie.Need-slice-aggregate-go-through Inv-loop μ-loop
-slice-aggregate-go-through c = search needs
-
-go-through-requires : tie.Need-go-through-requires Inv-loop μ-loop
-go-through-requires c κs = search needs
-
-sub-pieces : tie.Need-sub-pieces Inv-loop μ-loop
-sub-pieces c = search needs
 
 loop-less : tie.Need-loop-less Inv-loop μ-loop
 loop-less c = search needs
 
 loop-again : tie.Need-loop-again Inv-loop μ-loop
 loop-again c = search needs
-
-same-length-7 : tie.Need-same-length-7 Inv-loop μ-loop
-same-length-7 c = search needs
-
-same-length-8 : tie.Need-same-length-8 Inv-loop μ-loop
-same-length-8 c = search needs
 
 same-length-9 : tie.Need-same-length-9 Inv-loop μ-loop
 same-length-9 c = search needs
@@ -77,6 +68,18 @@ same-length-11 c = search needs
 same-length-12 : tie.Need-same-length-12 Inv-loop μ-loop
 same-length-12 c = search needs
 
+same-length-13 : tie.Need-same-length-13 Inv-loop μ-loop
+same-length-13 c = search needs
+
+same-length-14 : tie.Need-same-length-14 Inv-loop μ-loop
+same-length-14 c = search needs
+
+same-length-15 : tie.Need-same-length-15 Inv-loop μ-loop
+same-length-15 c = search needs
+
+same-length-16 : tie.Need-same-length-16 Inv-loop μ-loop
+same-length-16 c = search needs
+
 returns-2 : tie.Need-returns-2 Inv-loop μ-loop
 returns-2 c = search needs
 
@@ -88,24 +91,25 @@ go-on-spec =
     μ-loop
     start-requires
     loop-holds
-    read-full-requires
+    sub-pieces
+    go-through-next-requires
     same-length
     same-length-2
     same-length-3
     same-length-4
     same-length-5
     same-length-6
-    returns
-    slice-reshare-prefix-go-through
-    slice-aggregate-go-through
-    go-through-requires
-    sub-pieces
-    loop-less
-    loop-again
     same-length-7
     same-length-8
+    returns
+    loop-less
+    loop-again
     same-length-9
     same-length-10
     same-length-11
     same-length-12
+    same-length-13
+    same-length-14
+    same-length-15
+    same-length-16
     returns-2)

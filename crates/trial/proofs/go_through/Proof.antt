@@ -7,10 +7,10 @@ use Rattle.trial.proofs.go_through.Statement.{statement}
 use Rattle.trial.proofs.go_through.Tie as tie
 
 abbrev Inv-loop : tie.InvT-loop
-Inv-loop piece file₀ code₀ run₀ ends₀ weights₀ trial₀ i₀ file code run ends weights trial i = (length file ≡ length file₀) × (length code ≡ length code₀) × (length run ≡ length run₀) × (length ends ≡ length ends₀) × (length weights ≡ length weights₀)
+Inv-loop piece file₀ code₀ run₀ ends₀ weights₀ levels₀ times₀ trial₀ i₀ file code run ends weights levels times trial i = (length file ≡ length file₀) × (length code ≡ length code₀) × (length run ≡ length run₀) × (length ends ≡ length ends₀) × (length weights ≡ length weights₀) × (length levels ≡ length levels₀) × (length times ≡ length times₀)
 
 abbrev μ-loop : tie.MeasureT-loop
-μ-loop piece file₀ code₀ run₀ ends₀ weights₀ trial₀ i₀ file code run ends weights trial i = length piece - i
+μ-loop piece file₀ code₀ run₀ ends₀ weights₀ levels₀ times₀ trial₀ i₀ file code run ends weights levels times trial i = length piece - i
 
 loop-holds : tie.Need-loop-holds Inv-loop μ-loop
 loop-holds c = search needs
@@ -45,6 +45,12 @@ same-length-4 c = search needs
 same-length-5 : tie.Need-same-length-5 Inv-loop μ-loop
 same-length-5 c = search needs
 
+same-length-6 : tie.Need-same-length-6 Inv-loop μ-loop
+same-length-6 c = search needs
+
+same-length-7 : tie.Need-same-length-7 Inv-loop μ-loop
+same-length-7 c = search needs
+
 returns : tie.Need-returns Inv-loop μ-loop
 returns c = search needs
 
@@ -65,4 +71,6 @@ go-through-spec =
     same-length-3
     same-length-4
     same-length-5
+    same-length-6
+    same-length-7
     returns)

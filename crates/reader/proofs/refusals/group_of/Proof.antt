@@ -29,8 +29,26 @@ returns-4 c =
 returns-5 : tie.Need-returns-5
 unfolding groupOf
 returns-5 c =
-    let k : ℕ = c .before .before .before .args .number in
-    simp (lt-leb k 0 (omega arith), lt-leb k 8 (omega arith), lt-leb k 15 (omega arith), lt-leb k 16 (omega (arith, c .before .before .match .rest .1)))
+    let k : ℕ = c .before .before .before .before .before .args .number in
+    simp (lt-leb k 0 (omega arith), lt-leb k 8 (omega arith), lt-leb k 15 (omega arith), lt-leb k 16 (omega arith), lt-leb k 19 (omega arith), le-leb k 21 (omega arith))
+
+returns-6 : tie.Need-returns-6
+unfolding groupOf
+returns-6 c =
+    let k : ℕ = c .before .before .before .before .before .before .args .number in
+    simp (lt-leb k 0 (omega arith), lt-leb k 8 (omega arith), lt-leb k 15 (omega arith), lt-leb k 16 (omega arith), lt-leb k 19 (omega arith), lt-leb k 21 (omega arith), lt-leb k 23 (omega arith))
+
+returns-7 : tie.Need-returns-7
+unfolding groupOf
+returns-7 c =
+    let k : ℕ = c .before .before .before .before .args .number in
+    simp (lt-leb k 0 (omega arith), lt-leb k 8 (omega arith), lt-leb k 15 (omega arith), lt-leb k 16 (omega (arith, c .before .before .before .match .rest .1)), le-leb k 19 (omega arith))
+
+returns-8 : tie.Need-returns-8
+unfolding groupOf
+returns-8 c =
+    let k : ℕ = c .before .before .before .before .before .before .args .number in
+    simp (lt-leb k 0 (omega arith), lt-leb k 8 (omega arith), lt-leb k 15 (omega arith), lt-leb k 16 (omega arith), lt-leb k 19 (omega arith), lt-leb k 21 (omega arith), le-leb k 23 (omega arith))
 
 pub group-of-spec : {M : Type 1} → statement M
-group-of-spec = tie.close (tie.spec returns returns-2 returns-3 returns-4 returns-5)
+group-of-spec = tie.close (tie.spec returns returns-2 returns-3 returns-4 returns-5 returns-6 returns-7 returns-8)

@@ -7,7 +7,7 @@ use Prim.Native.Nat.{ℕ}
 use denote.Ref.{now}
 use Rattle.sign.specs.declared.Last.{Last}
 use Rattle.sign.specs.Rules.{Question, aQuestion, answered, limitAllowed}
-use Rattle.sign.specs.Keeping.{Lists, lists, fits, lastAt}
+use Rattle.sign.specs.Keeping.{Lists, lists, fits}
 use Rattle.sign.specs.Calls.{linesIn, entered}
 use Rattle.sign.specs.CallSteps.{entered-room, ask-line, ask-unknown, ask-refused}
 use Rattle.sign.proofs.calls.ask.Statement.{statement}

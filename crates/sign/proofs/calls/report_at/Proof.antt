@@ -2,7 +2,7 @@
 use borrow.Author.Needs.{needs}
 use mathlib.Core.Path.{_≡_, refl, sym, ap, ap₂, _∙_}
 use mathlib.Core.Logic.{⊎-elim}
-use mathlib.Core.List.{List, [], _∷_}
+use mathlib.Core.List.{[], _∷_}
 use Prim.Native.Nat.{ℕ}
 use native.Mathlib.Omega.{arith}
 use lib.IntN.{ℤ}
@@ -40,6 +40,10 @@ said c =
     let s = start c in
     c .tell .ensures ∙ ap₂ (λ (m : Last) (z : ℤ). told m (s .args .line) z (s .args .time)) (c .before .last-at .ensures) (toZ-ofZ {w = w32} (s .fits .level))
 
+-- it was kept at its own line
+at-home : (c : tie.After-keep) → let s = start (c .before .before .before .before .before) in lists (c .keep .last .1 .1 .1 .0) (c .keep .last .1 .1 .1 .1 .0) ≡ keep (lent s) (s .args .line) (s .args .level) (s .args .time)
+at-home c = let s = start (c .before .before .before .before .before) in c .keep .ensures ∙ ap (λ (z : ℤ). keep (lent s) (s .args .line) z (s .args .time)) (toZ-ofZ {w = w32} (s .fits .level))
+
 returns : tie.Need-returns
 returns c =
     let d = c .before .before .before .before in
@@ -48,9 +52,7 @@ returns c =
     let s = start t in
     let own : s .args .line ≡ e .enum-told .given .0 .0 = told-line _ (s .args .line) (s .args .level) (s .args .time) _ (sym (said t) ∙ e .enum-told .given .1) in (
       said t,
-      d .keep .ensures
-          ∙ ap (λ (z : ℤ). keep (lent s) (s .args .line) z (s .args .time)) (toZ-ofZ {w = w32} (s .fits .level))
-          ∙ kept-accepted (s .args .level) (s .args .time) (lent s) (e .enum-told .given .1 ∙ ap Accepted (sym own)),
+      at-home d ∙ kept-accepted (s .args .level) (s .args .time) (lent s) (e .enum-told .given .1 ∙ ap Accepted (sym own)),
     )
 
 returns-2 : tie.Need-returns-2

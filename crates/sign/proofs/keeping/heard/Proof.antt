@@ -1,8 +1,6 @@
 -- `sign::keeping::heard` meets its contract. Assumes nothing.
 use borrow.Author.Needs.{needs}
-use mathlib.Core.Path.{_≡_, sym, _∙_}
-use mathlib.Core.Bool.{true}
-use native.Mathlib.Omega.{arith}
+use mathlib.Core.Path.{sym, _∙_}
 use denote.Ref.{now}
 use Rattle.sign.specs.Keeping.{lists}
 use Rattle.sign.specs.KeepingLaws.{places-room, heard-there, heard-nowhere}
