@@ -8,3 +8,4 @@ pub mod ValueLaws
 pub mod SizeLaws
 pub mod RowLaws
 pub mod SignLaws
+pub mod Shown
