@@ -1,11 +1,9 @@
 -- A few rows, computed as one theorem. Assumes nothing.
 use mathlib.Core.Path.{_≡_, refl}
-use mathlib.Core.Bool.{Bool, true, false, not}
+use mathlib.Core.Bool.{Bool, true, not}
 use mathlib.Core.List.{List, [], _∷_, _++_}
 use Prim.Native.Nat.{ℕ}
-use lib.Dec.{eqb}
 use lib.IntN.{pos, negsuc}
-use lib.ListN.{length}
 use Rattle.counting.specs.Below as Below
 use Rattle.counting.specs.Lists as Lists
 use Rattle.counting.specs.Lists.{same, every}

@@ -9,7 +9,6 @@ use sign::Answer;
 use sign::Last;
 use storing::put_byte;
 use storing::put_bytes;
-ghost use mathlib.Core.Path.{_≡_};
 ghost use Prim.Native.Nat.{_+_, _≤_};
 ghost use lib.ListN.{length};
 ghost use Rattle.counting.specs.Wrote.{Wrote};

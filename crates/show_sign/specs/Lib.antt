@@ -1,3 +1,4 @@
 pub mod ListsLaws
 pub mod Taken
 pub mod TakenSteps
+pub mod Printed

@@ -1,5 +1,5 @@
 -- The lists of the sign after the reports of a text. Assumes nothing.
-use mathlib.Core.List.{List}
+use mathlib.Core.List.{List, [], _∷_, _++_}
 use Prim.Native.Nat.{ℕ, zero, suc}
 use lib.ListN.{length}
 use Rattle.counting.specs.Below.{lowest}
@@ -12,6 +12,8 @@ use Rattle.texts.specs.Reports.{reportOf}
 use Rattle.sign.specs.Rules.{aReport}
 use Rattle.sign.specs.Keeping.{Lists}
 use Rattle.sign.specs.Calls.{afterReport}
+use Rattle.sign.specs.Trace.{Call}
+use Rattle.sign.specs.Trace.Call.{report}
 
 -- a report of a code is brought to the sign of a file f, and a line that is no report changes nothing
 unfoldable pub afterRead : List ℕ → List ℕ → Report → Lists → Lists
@@ -34,3 +36,16 @@ linesIn text = lowest (suc (length text)) (noLine text)
 -- and all of them
 unfoldable pub afterText : List ℕ → List ℕ → Lists → Lists
 afterText f text S = afterLines f text (linesIn text) S
+
+-- ---- the same as calls of the sign
+
+unfoldable pub callsRead : List ℕ → Report → List Call
+callsRead code (Is size level time) = report (aReport code level time) ∷ []
+callsRead code Wrong = []
+
+unfoldable pub callsTo : List ℕ → ℕ → List Call
+callsTo text zero = []
+callsTo text (suc k) = let l = line text k in callsTo text k ++ callsRead (kept (word l 0)) (reportOf l)
+
+abbrev pub callsIn : List ℕ → List Call
+callsIn text = callsTo text (linesIn text)

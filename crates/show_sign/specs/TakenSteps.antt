@@ -1,6 +1,6 @@
 -- The reports of a text, line after line: one turn of the loop, and the lists at its end. Assumes nothing.
-use mathlib.Core.Path.{_≡_, refl, sym, ap, _∙_}
-use mathlib.Core.Bool.{true, false}
+use mathlib.Core.Path.{_≡_, refl, ap, _∙_}
+use mathlib.Core.Bool.{false}
 use mathlib.Core.List.{List}
 use Prim.Native.Nat.{ℕ, _+_, _≤_, _<_}
 use native.Mathlib.Numerals.{add-one}
@@ -12,7 +12,6 @@ use Rattle.counting.specs.SearchLaws.{lowest-only}
 use Rattle.counting.specs.Wrote.{Wrote}
 use Rattle.texts.specs.declared.Report.the-variants.{Is, Wrong}
 use Rattle.texts.specs.Parts.{before, since, Left}
-use Rattle.texts.specs.PartsLaws.{before-most}
 use Rattle.texts.specs.Lines.{isNewline, fromLine, line, noLine, withoutReturn}
 use Rattle.texts.specs.LineSteps.{line-first, line-next, line-here, line-there, line-none}
 use Rattle.texts.specs.Words.{word}

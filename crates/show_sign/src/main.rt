@@ -38,6 +38,8 @@ ghost use Prim.Native.Nat.{_≤_};
 ghost use lib.ListN.{length};
 ghost use Rattle.directory.specs.Sizes.{mostCodes};
 ghost use Rattle.sign.specs.Places.{placeAt};
+ghost use Rattle.sign.specs.Keeping.{lists, cleared};
+ghost use Rattle.show_sign.specs.Taken.{afterText};
 
 // Whether asking takes a limit. It looks at the limit before it looks for the line, so any code of a byte will do.
 fn limit_taken(file: &[u8], limit: u32) -> bool {
@@ -62,7 +64,7 @@ fn print_sign(file: &[u8], n: usize, moment: u32, limit: u32, levels: &[u8], tim
     }
 }
 
-// Of a file that opens, with n lines, and two lists of as many places.
+// Of a file that opens, with n lines, and two lists of as many places. What is printed is the sign of the lists as they are left.
 fn show(
     file: &[u8],
     n: usize,
@@ -73,6 +75,7 @@ fn show(
     times: &mut [u8],
 )
     requires { ⌜ (n ≤ mostCodes) × ((length (now levels) ≡ placeAt n) × (length (now times) ≡ placeAt n)) ⌝ }
+    ensures { λ _. ⌜ lists (now (levels .exit)) (now (times .exit)) ≡ afterText (now (file .entry)) (now (reports .entry)) (cleared n) ⌝ }
 {
     clear(n, levels, times);
     take_reports(file, reports, levels, times);

@@ -13,7 +13,7 @@ use Rattle.counting.specs.TestLaws.{clash}
 use Rattle.texts.specs.declared.Number.the-variants as number
 use Rattle.texts.specs.declared.Level.the-variants.{Is, Wrong}
 use Rattle.texts.specs.Numbers.{numberOf}
-use Rattle.texts.specs.Levels.{isNegative, withoutSign, mostLevel, signedOf, levelFrom, levelOf}
+use Rattle.texts.specs.Levels.{isNegative, withoutSign, mostLevel, signedOf, levelOf}
 
 -- ---- the sign
 

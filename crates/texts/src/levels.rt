@@ -4,7 +4,7 @@ use crate::Number;
 use crate::numbers::read_number;
 ghost use mathlib.Core.Path.{_≡_};
 ghost use Prim.Native.Nat.{_≤_};
-ghost use Rattle.texts.specs.Levels.{isNegative, withoutSign, mostLevel, signedOf, levelFrom, levelOf};
+ghost use Rattle.texts.specs.Levels.{isNegative, withoutSign, mostLevel, signedOf, levelOf};
 
 // The largest number that has 32 bits with either sign.
 const MOST_LEVEL: u32 = 2_147_483_647;

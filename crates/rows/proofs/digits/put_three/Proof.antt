@@ -1,7 +1,7 @@
 -- `rows::digits::put_three` meets its contract. Assumes nothing.
 use borrow.Author.Needs.{needs}
 use Rattle.counting.specs.WroteLaws.{wrote-then}
-use Rattle.rows.specs.Values.{twoDigits, threeDigits}
+use Rattle.rows.specs.Values.{threeDigits}
 use Rattle.rows.proofs.digits.put_three.Statement.{statement}
 use Rattle.rows.proofs.digits.put_three.Tie as tie
 

@@ -6,7 +6,7 @@ use lib.ListN.{length}
 use borrow.Author.Needs.{needs}
 use Rattle.counting.specs.WroteLaws.{wrote-then}
 use Rattle.directory.specs.Listing.{decimal}
-use Rattle.rows.specs.Values.{threeDigits, metres}
+use Rattle.rows.specs.Values.{metres}
 use Rattle.rows.specs.ValueLaws.{metres-length, three-length}
 use Rattle.rows.proofs.values.put_metres.Statement.{statement}
 use Rattle.rows.proofs.values.put_metres.Tie as tie
