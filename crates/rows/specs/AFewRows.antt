@@ -13,7 +13,7 @@ use Rattle.sign.specs.declared.Answer.the-variants.{Never, Fresh, Stale, Refuse
 use Rattle.texts.specs.Codes.{inHex}
 use Rattle.rows.specs.Filling.{blanks, filled}
 use Rattle.rows.specs.Values.{twoDigits, threeDigits, metres, levelText, ageText, valueText, column}
-use Rattle.rows.specs.Rows.{plain, codeText, codeColumn, seenOf, columns, seenText, refusedText, wordText, rowText}
+use Rattle.rows.specs.Rows.{lone, readable, plain, codeText, codeColumn, seenOf, columns, seenText, refusedText, wordText, rowText}
 
 -- ---- levels in millimetres, ages in seconds
 
@@ -40,19 +40,23 @@ ageSays =
 
 -- ---- codes
 
--- `K9`, `A B`, `0x1`, and the same in hex: `0x412042`, `0x307831`
+-- `K9`, `A B`, `0x1`, and the last in hex: `0x307831`
 k9 : List ℕ
 k9 = 0x4B ∷ 0x39 ∷ []
 
 pub codeSays : List Bool
 codeSays =
     same (codeText k9) k9
-    ∷ same (codeText (0x41 ∷ 0x20 ∷ 0x42 ∷ [])) (0x30 ∷ 0x78 ∷ 0x34 ∷ 0x31 ∷ 0x32 ∷ 0x30 ∷ 0x34 ∷ 0x32 ∷ [])
+    ∷ same (codeText (0x41 ∷ 0x20 ∷ 0x42 ∷ [])) (0x41 ∷ 0x20 ∷ 0x42 ∷ [])
     ∷ same (codeText (0x30 ∷ 0x78 ∷ 0x31 ∷ [])) (0x30 ∷ 0x78 ∷ 0x33 ∷ 0x30 ∷ 0x37 ∷ 0x38 ∷ 0x33 ∷ 0x31 ∷ [])
     -- the first and the last byte that can be seen, and those beside them
     ∷ plain (0x21 ∷ 0x7E ∷ [])
     ∷ not (plain (0x20 ∷ []))
     ∷ not (plain (0x7F ∷ []))
+    -- a blank at an end, and two in a row
+    ∷ not (plain (0x20 ∷ 0x41 ∷ []))
+    ∷ not (plain (0x41 ∷ 0x20 ∷ []))
+    ∷ not (plain (0x41 ∷ 0x20 ∷ 0x20 ∷ 0x42 ∷ []))
     ∷ []
 
 -- ---- whole rows
@@ -88,5 +92,5 @@ rowSays =
     ∷ []
 
 pub a-few-rows : every (λ b. b) (levelSays ++ ageSays ++ codeSays ++ rowSays) ≡ true
-unfolding levelSays ageSays codeSays rowSays k9 shallow none ninety noAge start Below.any Lists.same Lists.every digit digits decimal hex inHex filled twoDigits threeDigits metres levelText ageText valueText column plain codeText codeColumn seenOf columns seenText refusedText wordText rowText
+unfolding levelSays ageSays codeSays rowSays k9 shallow none ninety noAge start lone readable Below.any Lists.same Lists.every digit digits decimal hex inHex filled twoDigits threeDigits metres levelText ageText valueText column plain codeText codeColumn seenOf columns seenText refusedText wordText rowText
 a-few-rows = refl

@@ -2,7 +2,7 @@
 use mathlib.Core.Bool.{Bool, true, false, not, _&&_, _||_, cond}
 use mathlib.Core.List.{List, [], _∷_, _++_}
 use Prim.Native.Nat.{ℕ, _+_, _-_}
-use lib.Dec.{leb}
+use lib.Dec.{eqb, ltb, leb}
 use lib.ListN.{length, getD}
 use Rattle.counting.specs.Below.{any}
 use Rattle.directory.specs.Listing.{blank, decimal, hex}
@@ -23,14 +23,22 @@ use Rattle.rows.specs.Values.{gap, column, longestColumn}
 -- ---- the code
 
 -- a character that can be seen
-abbrev pub readable : ℕ → Bool
-readable b = between 0x21 0x7E b
+abbrev pub visible : ℕ → Bool
+visible b = between 0x21 0x7E b
 
--- a code is shown as it stands if all its bytes can be seen and it does not start with `0x`
+-- what stands at place i has other bytes on both sides, and no blank before it
+unfoldable pub lone : List ℕ → ℕ → Bool
+lone code i = ltb 0 i && (ltb (i + 1) (length code) && not (eqb (getD code (i - 1) 0) blank))
+
+-- byte i of a code can be read: it can be seen, or it is one blank between others
+unfoldable pub readable : List ℕ → ℕ → Bool
+readable code i = let b = getD code i 0 in visible b || (eqb b blank && lone code i)
+
+-- a code is shown as it stands if all its bytes can be read and it does not start with `0x`
 unfoldable pub plain : List ℕ → Bool
-plain code = not (inHex code || any (length code) (λ i. not (readable (getD code i 0))))
+plain code = not (inHex code || any (length code) (λ i. not (readable code i)))
 
--- otherwise in hex: so it is written as a code is in a text
+-- otherwise in hex, so that no two codes look alike
 unfoldable pub codeText : List ℕ → List ℕ
 codeText code = cond (plain code) code (hexSign ++ hex code)
 

@@ -6,11 +6,11 @@ use listing::put_hex;
 use storing::put_bytes;
 use texts::in_hex;
 ghost use mathlib.Core.Path.{_≡_};
-ghost use Prim.Native.Nat.{_+_, _≤_};
+ghost use Prim.Native.Nat.{_+_, _≤_, _<_};
 ghost use lib.ListN.{length};
 ghost use Rattle.counting.specs.Wrote.{Wrote};
 ghost use Rattle.directory.specs.Kind.{HD};
-ghost use Rattle.rows.specs.Rows.{readable as isReadable, plain as isPlain, codeText, codeColumn, longestCode};
+ghost use Rattle.rows.specs.Rows.{visible as isVisible, lone as isLone, readable as isReadable, plain as isPlain, codeText, codeColumn, longestCode};
 
 // The width of the column, and the longest text in it: `0x` and 32 pairs of digits.
 const WIDTH: usize = 32;
@@ -18,8 +18,8 @@ const WIDTH: usize = 32;
 const LONGEST_CODE: usize = 66;
 
 // Whether a byte is a character that can be seen.
-fn readable(b: u8) -> bool
-    ensures { λ yes. ⌜ yes ≡ isReadable b ⌝ }
+fn visible(b: u8) -> bool
+    ensures { λ yes. ⌜ yes ≡ isVisible b ⌝ }
 {
     if b < b'!' {
         return false;
@@ -27,7 +27,36 @@ fn readable(b: u8) -> bool
     b <= b'~'
 }
 
-// Whether a code is shown as it stands: all its bytes can be seen, and it is not taken for hex.
+// Whether there are bytes on both sides of a place, and no blank before it.
+fn lone(code: &[u8], i: usize) -> bool
+    requires { ⌜ i < length (now code) ⌝ }
+    ensures { λ yes. ⌜ yes ≡ isLone (now (code .entry)) i ⌝ }
+{
+    if i == 0 {
+        return false;
+    }
+    if code.len() <= i + 1 {
+        return false;
+    }
+    code[i - 1] != b' '
+}
+
+// Whether a byte can be seen, or is one blank between others.
+fn readable(code: &[u8], i: usize) -> bool
+    requires { ⌜ i < length (now code) ⌝ }
+    ensures { λ yes. ⌜ yes ≡ isReadable (now (code .entry)) i ⌝ }
+{
+    let b = code[i];
+    if visible(b) {
+        return true;
+    }
+    if b != b' ' {
+        return false;
+    }
+    lone(code, i)
+}
+
+// Whether a code is shown as it stands: all its bytes can be read, and it is not taken for hex.
 fn plain(code: &[u8]) -> bool
     ensures { λ yes. ⌜ yes ≡ isPlain (now (code .entry)) ⌝ }
 {
@@ -36,7 +65,7 @@ fn plain(code: &[u8]) -> bool
     }
     let mut i = 0;
     while i < code.len() {
-        if !readable(code[i]) {
+        if !readable(code, i) {
             return false;
         }
         i += 1;
