@@ -9,3 +9,4 @@ pub mod SizeLaws
 pub mod RowLaws
 pub mod SignLaws
 pub mod Shown
+pub mod CodesApart
