@@ -8,9 +8,7 @@ ghost use Rattle.counting.specs.Wrote.{Wrote};
 ghost use Rattle.sign.specs.Places.{placeBytes, placeAt};
 ghost use Rattle.sign.specs.Keeping.{lists, cleared};
 
-// The bytes of a place, and of 1,024 of them.
-pub const PLACE: usize = 4;
-
+// The bytes of 1,024 places.
 pub const MOST_BYTES: usize = 4_096;
 
 // Puts the same bytes into the places of n lines.

@@ -11,6 +11,7 @@ pub use calls::report;
 pub use keeping::heard;
 pub use levels::HIGHEST_LEVEL;
 pub use levels::LOWEST_LEVEL;
+pub use places::PLACE;
 
 // The last accepted report of a line: its level and its time.
 pub enum Last {
