@@ -1,7 +1,7 @@
 -- Lists that hold the same in every place, and the cleared ones. Assumes nothing.
 use mathlib.Core.Path.{_≡_, refl, ap, _∙_}
 use mathlib.Core.List.{List, [], _∷_, _++_, append-nil}
-use Prim.Native.Nat.{ℕ, zero, suc, _+_}
+use Prim.Native.Nat.{ℕ, zero, suc}
 use native.Mathlib.Omega.{arith}
 use lib.ListN.{length, drop, drop-of-length-le}
 use Rattle.counting.specs.Lists.{each}
@@ -9,7 +9,7 @@ use Rattle.counting.specs.EachLaws.{length-each}
 use Rattle.counting.specs.Wrote.{Wrote}
 use Rattle.counting.specs.WroteLaws.{wrote-whole}
 use Rattle.sign.specs.Places.{placeBytes, placeAt, byte0, byte1, byte2, byte3, filled}
-use Rattle.sign.specs.Keeping.{Lists, lists, cleared}
+use Rattle.sign.specs.Keeping.{lists, cleared}
 
 -- the four bytes of a number
 abbrev place : ℕ → List ℕ

@@ -3,18 +3,16 @@ use mathlib.Core.Path.{_≡_, refl, sym, ap, _∙_}
 use mathlib.Core.Logic.{_≢_}
 use mathlib.Core.Bool.{Bool, true}
 use mathlib.Core.List.{List}
-use Prim.Native.Nat.{ℕ, _-_}
+use Prim.Native.Nat.{ℕ}
 use borrow.Author.Tests.{not-false}
-use Rattle.directory.specs.declared.Opening.the-variants as opening
 use Rattle.directory.specs.declared.Found.{Found}
-use Rattle.directory.specs.declared.Found.the-variants.{At, Unknown, Refused}
+use Rattle.directory.specs.declared.Found.the-variants.{At}
 use Rattle.directory.specs.Refusals.{Refusal, NoneApplies}
 use Rattle.directory.specs.RefusalLaws.{none-right}
 use Rattle.directory.specs.Calls.{lookupOf}
 use Rattle.sign.specs.declared.Last.{Last}
 use Rattle.sign.specs.declared.Reported.{Reported}
 use Rattle.sign.specs.declared.Reported.the-variants as told
-use Rattle.sign.specs.declared.Answer.the-variants as answer
 use Rattle.sign.specs.Rules.{Report, Question, reportRefusals, askRefusals, judged, limitAllowed}
 use Rattle.sign.specs.Keeping.{Lists, fits, lastAt, heardAt, kept}
 use Rattle.sign.specs.KeepingLaws.{fits-room, heard-fits, OwnPlaceAlone, kept-own}
@@ -22,8 +20,6 @@ use Rattle.sign.specs.Calls.{linesIn, checks, reportOf, afterReport, ask
 use Rattle.sign.specs.CallSteps.{line-below}
 use Rattle.sign.specs.Refusing.{lookupRefusal, inOrder, reportTable, askTable}
 use Rattle.sign.specs.RefusingLaws.{report-accepted-exactly, ask-judged}
-use Rattle.sign.specs.Trace.{nothing}
-use Rattle.sign.specs.Trace.Call.{report}
 
 -- ---- a report that is not accepted changes no byte, whatever the file and the lists
 

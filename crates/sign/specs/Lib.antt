@@ -7,6 +7,7 @@ pub mod Keeping
 pub mod KeepingLaws
 pub mod Calls
 pub mod Answers
+pub mod AFewAnswers
 pub mod RuleSteps
 pub mod CallSteps
 pub mod Trace

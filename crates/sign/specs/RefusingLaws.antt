@@ -1,6 +1,6 @@
 -- Reporting and asking give the first refusal of their table that applies, and none before it applies. Assumes nothing.
 use mathlib.Core.Path.{_≡_, refl, sym, ap, _∙_}
-use mathlib.Core.Logic.{_⊎_, ⊎-elim, _≢_, _↔_}
+use mathlib.Core.Logic.{inl, ⊎-elim, _≢_, _↔_}
 use mathlib.Core.Bool.{Bool, true, false, cond}
 use mathlib.Core.List.{List}
 use Prim.Native.Nat.{ℕ, _-_}
@@ -45,7 +45,7 @@ module _ {A : Type 0} (refused : ℕ → ℕ → A) (unknown : A) (ok : ℕ → 
     unfolding onLine inOrder lookupRefusal
     refused-given found d k p = (
       λ e. ⊎-elim (λ g. g) (λ w. absurd (none found d w)) (first-refused (onLine refused unknown ok found) refused own (inOrder found table rows) k p .0 (sym (one-table found) ∙ e)),
-      λ g. one-table found ∙ first-refused (onLine refused unknown ok found) refused own (inOrder found table rows) k p .1 (_⊎_.inl g),
+      λ g. one-table found ∙ first-refused (onLine refused unknown ok found) refused own (inOrder found table rows) k p .1 (inl g),
     )
       where
         none : (found : Found) → ((line k p : ℕ) → found ≡ At line → ok line ≢ refused k p) → NoneApplies (inOrder found table rows) × (onLine refused unknown ok found ≡ refused k p) → ⊥

@@ -7,8 +7,6 @@ use native.Mathlib.Omega.{arith}
 use borrow.Author.Tests.{ltb-false, leb-true, leb-false, not-false}
 use lib.Dec.{ltb, leb}
 use lib.IntN.{ℤ}
-use Rattle.directory.specs.declared.Opening.the-variants as opening
-use Rattle.directory.specs.declared.Found.the-variants.{Refused}
 use Rattle.directory.specs.Refusals.{first}
 use Rattle.directory.specs.RefusalLaws.{first-none, first-is}
 use Rattle.sign.specs.declared.Last.{Last}
@@ -17,8 +15,6 @@ use Rattle.sign.specs.declared.Reported.the-variants as reported
 use Rattle.sign.specs.Levels.{inRange}
 use Rattle.sign.specs.declared.Answer.the-variants as answer
 use Rattle.sign.specs.Rules.{beforeLast, reportRefusals, told, answered}
-use Rattle.sign.specs.Trace.{nothing}
-use Rattle.sign.specs.Trace.Call.{report}
 use Rattle.sign.specs.Trace.Reply.{reported}
 
 -- ---- a report that is accepted: its level is in range, and its time is not before the last

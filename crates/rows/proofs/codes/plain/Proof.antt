@@ -1,6 +1,6 @@
 -- `rows::codes::plain` meets its contract. The invariant: the first i bytes can be read. The measure is what is left of the code. Assumes nothing.
 use mathlib.Core.Path.{_≡_, sym, _∙_}
-use mathlib.Core.Bool.{true, false}
+use mathlib.Core.Bool.{true}
 use Prim.Native.Nat.{ℕ, _-_, _≤_, _<_}
 use native.Mathlib.Omega.{arith}
 use lib.ListN.{length}
