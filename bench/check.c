@@ -1,5 +1,5 @@
 /* Holds the library to the plain C version: the same answers and bytes on the measured lists, in files with a wrong byte or
- * a wrong length, and where a build is refused. It ends with status 1 where anything is wrong. */
+ * a wrong length, and where a build is refused; and the same answers and lists of a sign. It ends with status 1 where anything is wrong. */
 #include "lists.h"
 
 #include <stdbool.h>
@@ -12,6 +12,9 @@ enum {
     ASKED = 8,         /* codes and strangers that are asked in a damaged file */
     OTHER_WEIGHTS = 20,
     OTHER_SEED = 1000,
+    SIGN_CALLS = 2000,            /* reports and questions of a sign */
+    SPAN = 100,                   /* the seconds that they fall into */
+    LISTS = DS_BYTES_OF_A_PLACE * DS_MOST_CODES,
     SHOWN = 20,                   /* how many wrong answers are named */
     BUFFER = DS_LONGEST_FILE + 64 /* bytes past the file must stay as they are */
 };
@@ -169,6 +172,65 @@ static void check_other_weights(const struct list *l, size_t r)
     }
 }
 
+/* ---- The sign ----------------------------------------------------------- */
+
+/* A sign that the library keeps, and the plain C version's. */
+struct sign {
+    uint8_t levels[LISTS], times[LISTS], plain_levels[LISTS], plain_times[LISTS];
+    size_t bytes;
+};
+
+/* A code or a stranger, which may be empty or too long. */
+static struct code any_code(const struct list *l, uint64_t *state)
+{
+    uint64_t x = next_random(state);
+    struct code c = x % 8 < 7 ? l->codes[x / 8 % l->n] : l->strangers[x / 8 % l->n];
+    if (x % 64 == 63)
+        c.len = x / 64 % 2 * (DS_LONGEST_CODE + 1);
+    return c;
+}
+
+static void held_report(const struct file *f, struct sign *s, struct code c, int32_t level, uint32_t time, size_t bytes)
+{
+    struct ds_reported ours =
+        ds_report(f->bytes, f->length, c.bytes, c.len, level, time, s->levels, bytes, s->times, s->bytes);
+    struct ds_reported plain =
+        plain_report(f->bytes, f->length, c.bytes, c.len, level, time, s->plain_levels, bytes, s->plain_times, s->bytes);
+    expect(ours.kind == plain.kind && ours.number == plain.number && ours.place == plain.place && ours.line == plain.line,
+           "a report", f->list, f->r);
+    expect(memcmp(s->levels, s->plain_levels, LISTS) == 0 && memcmp(s->times, s->plain_times, LISTS) == 0, "a report's bytes",
+           f->list, f->r);
+}
+
+static void held_ask(const struct file *f, const struct sign *s, struct code c, uint32_t now, uint32_t limit, size_t bytes)
+{
+    struct ds_asked ours = ds_ask(f->bytes, f->length, c.bytes, c.len, now, limit, s->levels, bytes, s->times, s->bytes);
+    struct ds_asked plain =
+        plain_ask(f->bytes, f->length, c.bytes, c.len, now, limit, s->plain_levels, bytes, s->plain_times, s->bytes);
+    expect(ours.kind == plain.kind && ours.number == plain.number && ours.place == plain.place && ours.level == plain.level &&
+               ours.age == plain.age,
+           "a question", f->list, f->r);
+}
+
+/* Random calls on lists of random bytes: levels a little past their range, times in a short span, and now and then lists of a
+ * wrong length. */
+static void check_sign(const struct file *f, uint64_t *state)
+{
+    static struct sign s;
+    s.bytes = DS_BYTES_OF_A_PLACE * f->list->n;
+    for (size_t i = 0; i < LISTS; i++) {
+        s.levels[i] = s.plain_levels[i] = (uint8_t)next_random(state);
+        s.times[i] = s.plain_times[i] = (uint8_t)next_random(state);
+    }
+    for (size_t i = 0; i < SIGN_CALLS; i++) {
+        struct code c = any_code(f->list, state);
+        size_t bytes = next_random(state) % 16 == 0 ? s.bytes - 1 : s.bytes;
+        int32_t level = (int32_t)(next_random(state) % 40100) - 20050;
+        held_report(f, &s, c, level, (uint32_t)(next_random(state) % SPAN), bytes);
+        held_ask(f, &s, c, (uint32_t)(next_random(state) % SPAN), (uint32_t)(next_random(state) % (SPAN / 2)), bytes);
+    }
+}
+
 /* ---- All of it ---------------------------------------------------------- */
 
 static void check_list(const struct list *l, size_t r)
@@ -183,6 +245,7 @@ static void check_list(const struct list *l, size_t r)
     check_lines(&f);
     check_wrong_bytes(&f, &state);
     check_wrong_lengths(&f);
+    check_sign(&f, &state);
     check_refusals(l, r);
     check_other_weights(l, r);
 }

@@ -41,6 +41,13 @@ typedef struct ds_answer build_fn(const uint8_t *run, size_t run_len, const uint
                                   size_t buffer_len);
 typedef struct ds_found lookup_fn(const uint8_t *file, size_t file_len, const uint8_t *code, size_t code_len);
 
+typedef struct ds_reported report_fn(const uint8_t *file, size_t file_len, const uint8_t *code, size_t code_len,
+                                     int32_t level, uint32_t time, uint8_t *levels, size_t levels_len, uint8_t *times,
+                                     size_t times_len);
+typedef struct ds_asked ask_fn(const uint8_t *file, size_t file_len, const uint8_t *code, size_t code_len, uint32_t now,
+                               uint32_t limit, const uint8_t *levels, size_t levels_len, const uint8_t *times,
+                               size_t times_len);
+
 /* The list of n codes. */
 struct list *list_new(size_t n);
 void list_free(struct list *l);

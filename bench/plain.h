@@ -1,4 +1,4 @@
-/* The directory by hand in plain C, unproved: calls, answers and files are the library's. It is what the library's speed is
+/* The directory and the sign by hand in plain C, unproved: calls, answers and files are the library's. It is what the library's speed is
  * measured against, and the second program that its answers are held to. */
 #ifndef PLAIN_H
 #define PLAIN_H
@@ -21,5 +21,18 @@ struct ds_found plain_lookup(const uint8_t *file, size_t file_len,
 /* Counts them one by one. */
 struct ds_found plain_lookup_loop(const uint8_t *file, size_t file_len,
                                   const uint8_t *code, size_t code_len);
+
+/* Above the lookup that counts one by one. */
+struct ds_reported plain_report(const uint8_t *file, size_t file_len,
+                                const uint8_t *code, size_t code_len,
+                                int32_t level, uint32_t time,
+                                uint8_t *levels, size_t levels_len,
+                                uint8_t *times, size_t times_len);
+
+struct ds_asked plain_ask(const uint8_t *file, size_t file_len,
+                          const uint8_t *code, size_t code_len,
+                          uint32_t now, uint32_t limit,
+                          const uint8_t *levels, size_t levels_len,
+                          const uint8_t *times, size_t times_len);
 
 #endif
