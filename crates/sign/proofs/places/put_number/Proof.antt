@@ -1,4 +1,5 @@
 -- `sign::places::put_number` meets its contract. Assumes nothing.
+use mathlib.Core.Path.{refl}
 use native.Mathlib.Omega.{arith}
 use lib.ListN.{length-set}
 use Rattle.sign.specs.Places.{withNumber}
@@ -47,7 +48,7 @@ same-length c = search needs
 
 returns : tie.Need-returns
 unfolding withNumber
-returns c = search needs
+returns c = refl
 
 pub put-number-spec : {M : Type 1} → statement M
 put-number-spec =
