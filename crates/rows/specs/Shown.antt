@@ -24,10 +24,10 @@ use Rattle.rows.specs.declared.Seen.the-variants.{Nothing, Report}
 use Rattle.rows.specs.Rows.{seenOf}
 use Rattle.rows.specs.RowLaws.{seen-report}
 
--- what a row has to show where asking answers so: an age within the limit and the level beside `fresh`, an age past it and the level beside `stale`, and otherwise neither
+-- what a row has to show where asking answers so: beside `fresh` the level of the line's last report and its age, which is within the limit; beside `stale` the level and the age, past the limit, that asking gives; and otherwise neither
 abbrev pub Shows : Last → ℕ → ℕ → Answer → Type 0
 Shows last moment limit Never = seenOf last Never moment ≡ Nothing
-Shows last moment limit (Fresh level) = (age : ℕ) × (age ≤ limit) × (seenOf last (Fresh level) moment ≡ Report level age)
+Shows last moment limit (Fresh level) = (time : ℕ) × (last ≡ Heard level time) × (time ≤ moment) × (moment - time ≤ limit) × (seenOf last (Fresh level) moment ≡ Report level (moment - time))
 Shows last moment limit (Stale level age) = (limit < age) × (seenOf last (Stale level age) moment ≡ Report level age)
 Shows last moment limit Unknown = seenOf last Unknown moment ≡ Nothing
 Shows last moment limit (Refused number place) = seenOf last (Refused number place) moment ≡ Nothing
@@ -43,7 +43,7 @@ by-rule (Heard z t) moment limit =
     (λ (m : t ≤ moment).
     ⊎-elim
     (λ (a : limit < moment - t). rw (← answered-stale z t moment limit refl m a) (a, sym (seen-report (Stale z (moment - t)) moment refl refl m)))
-    (λ (a : moment - t ≤ limit). rw (← answered-fresh z t moment limit refl m a) (moment - t, a, sym (seen-report (Fresh z) moment refl refl m)))
+    (λ (a : moment - t ≤ limit). rw (← answered-fresh z t moment limit refl m a) (t, refl, m, a, sym (seen-report (Fresh z) moment refl refl m)))
     (lt? limit (moment - t)))
     (lt? moment t)
 

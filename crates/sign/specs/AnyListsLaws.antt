@@ -53,3 +53,8 @@ accepted-own f q S line e =
     let w = report-accepted-exactly f q S line .0 e in
     let fit : fits (linesIn f) S ≡ true = none-fits (lookupOf f (q .code)) true _ (λ line. reportRefusals (lastAt S line) (q .level) (q .time)) (w .1) in
     rw e (kept-own S line (q .level) (q .time) (fits-room (linesIn f) S line fit (line-below f (q .code) line (w .0))))
+
+-- ---- what the lists have at a line is decided
+
+pub what-was-heard-is-decided : (S : Lists) (line : ℕ) {a b : Last} → a ≡ heardAt S line → b ≡ heardAt S line → a ≡ b
+what-was-heard-is-decided S line a b = a ∙ sym b

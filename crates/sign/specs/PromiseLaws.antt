@@ -22,9 +22,10 @@ use Rattle.sign.specs.declared.Answer.the-variants as answer
 use Rattle.sign.specs.Rules.{Report, Question, beforeLast, told, answered, limitAllowed}
 use Rattle.sign.specs.Levels.{inRange}
 use Rattle.sign.specs.RuleSteps.{answered-never, answered-fresh, answered-stale, Passes, enter-found}
-use Rattle.sign.specs.Keeping.{Lists, cleared}
-use Rattle.sign.specs.Calls.{entered, onLine, reportOf, afterReport, askOf}
-use Rattle.sign.specs.CallSteps.{entered-in}
+use Rattle.sign.specs.Keeping.{Lists, heardAt, cleared}
+use Rattle.sign.specs.KeepingLaws.{heard-fits}
+use Rattle.sign.specs.Calls.{linesIn, entered, onLine, reportOf, afterReport, askOf}
+use Rattle.sign.specs.CallSteps.{line-below, entered-in}
 use Rattle.sign.specs.RuleLaws.{told-accepted, never-of, fresh-of, stale-of}
 use Rattle.sign.specs.RefusingLaws.{report-accepted-exactly}
 use Rattle.sign.specs.Trace.{Call, log, after, signReply, signNext, sign, Map, nothing, mapReport, mapAsk, plain}
@@ -74,6 +75,12 @@ module _ (f : List ℕ) {n r v : ℕ} (o : headerOf f ≡ opening.Opened n r v) 
   map-is : (code : List ℕ) → map code ≡ last code
   unfolding nothing
   map-is code = map-last f code ks nothing ∙ ap (lastIn code NeverHeard) (sym (log-same f ks (cleared n) nothing (cleared-stands f o)))
+
+  -- what the lists have at a code's line is its last accepted report
+  pub heard-exactly : (code : List ℕ) (line : ℕ) → lookupOf f code ≡ At line → (z : ℤ) (t : ℕ) → (heardAt lists line ≡ Heard z t) ↔ ((d : Report) × LastAccepted code d entries × (d .level ≡ z) × (d .time ≡ t))
+  heard-exactly code line e z t =
+      let i : heardAt lists line ≡ last code = heard-fits lists line (linesIn f) (stands .fitting) (line-below f code line e) ∙ stands .lines code line e ∙ map-is code in
+      (λ h. heard-last code entries (sym i ∙ h), λ w. i ∙ last-is code NeverHeard (w .1) ∙ rw (w .2, w .3))
 
   -- a listed code gets through where the limit is right
   way : (code : List ℕ) (limited : Bool) (line : ℕ) → lookupOf f code ≡ At line → limited ≡ true → entered f code limited true ≡ At line

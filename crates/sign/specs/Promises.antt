@@ -10,7 +10,7 @@ use Rattle.directory.specs.declared.Found.the-variants as found
 use Rattle.directory.specs.Refusals.{NoneApplies, Given}
 use Rattle.directory.specs.Calls.{openOf, lookupOf}
 use Rattle.directory.specs.EveryFile.{what-opens-has-its-header}
-use Rattle.sign.specs.declared.Last.{Last}
+use Rattle.sign.specs.declared.Last.the-variants.{Heard}
 use Rattle.sign.specs.declared.Reported.{Reported}
 use Rattle.sign.specs.declared.Reported.the-variants as reported
 use Rattle.sign.specs.declared.Answer.{Answer}
@@ -81,6 +81,10 @@ module _ (f : List ℕ) (n r v : ℕ) (o : openOf f ≡ opening.Opened n r v) (c
   pub accepted-means-exactly : (q : Report) (line : ℕ) → (reportOf f q left ≡ reported.Accepted line) ↔ ((lookupOf f (q .code) ≡ found.At line) × (inRange (q .level) ≡ true) × ((d : Report) → LastAccepted (q .code) d made → d .time ≤ q .time))
   accepted-means-exactly = laws.accepted-exactly f (what-opens-has-its-header f n r v o) calls
 
+  -- what the lists have at the line of a code is its last accepted report
+  pub heard-means-exactly : (code : List ℕ) (line : ℕ) → lookupOf f code ≡ found.At line → (level : ℤ) (time : ℕ) → (heardAt left line ≡ Heard level time) ↔ ((d : Report) × LastAccepted code d made × (d .level ≡ level) × (d .time ≡ time))
+  heard-means-exactly = laws.heard-exactly f (what-opens-has-its-header f n r v o) calls
+
   module _ (q : Question) where
     -- Fresh means exactly: this code's last accepted report is at most the limit old, and the level is its own
     pub fresh-means-exactly : (level : ℤ) → (askOf f q left ≡ answer.Fresh level) ↔ ((limitAllowed (q .limit) ≡ true) × ((d : Report) × LastAccepted (q .code) d made × (d .level ≡ level) × (d .time ≤ q .now) × (q .now - d .time ≤ q .limit)))
@@ -113,6 +117,3 @@ reporting-is-decided f q S a b = (a .0 ∙ sym (b .0), a .1 ∙ sym (b .1))
 
 pub asking-is-decided : (f : List ℕ) (q : Question) (S : Lists) {a b : Answer} → a ≡ askOf f q S → b ≡ askOf f q S → a ≡ b
 asking-is-decided f q S a b = a ∙ sym b
-
-pub what-was-heard-is-decided : (S : Lists) (line : ℕ) {a b : Last} → a ≡ heardAt S line → b ≡ heardAt S line → a ≡ b
-what-was-heard-is-decided S line a b = a ∙ sym b
