@@ -7,6 +7,8 @@ pub mod Lists
 pub mod ListsLaws
 pub mod EachLaws
 pub mod OccurrenceLaws
+pub mod Larger
+pub mod LargerLaws
 pub mod Widths
 pub mod Holds
 pub mod HoldsLaws

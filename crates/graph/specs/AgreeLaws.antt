@@ -6,8 +6,10 @@ use mathlib.Core.List.{List, [], _∷_, _++_}
 use Prim.Native.Nat.{ℕ, zero, suc, _≤_, _<_}
 use native.Mathlib.Omega.{arith}
 use lib.Dec.{eqb}
+use lib.ListN.{length}
 use borrow.Author.Tests.{eq-eqb}
 use Rattle.counting.specs.TestLaws.{eq?}
+use Rattle.counting.specs.Larger.{larger}
 use Rattle.counting.specs.Below.{bit, count, lowest}
 use Rattle.counting.specs.BelowLaws.{sum-equal, sum-zero}
 use Rattle.counting.specs.SearchLaws.{any-equal, lowest-equal}
@@ -15,6 +17,7 @@ use Rattle.counting.specs.OccurrenceLaws.{those-equal}
 use Rattle.graph.specs.Graph.{Graph, Proper, names, degreeIn}
 use Rattle.graph.specs.Peeling.{unremoved, oneLeft, firstWaiting, follow, followAll, peel, removalList, leftOver, numberLeft}
 use Rattle.graph.specs.Run.{Reached, start, step}
+use Rattle.graph.specs.Waiting.{mostFrom, mostWaiting}
 use Rattle.graph.specs.Assignment.{landing, assignedBelow, rankEntry, minusMod, Table, firstUnvisited, visitedSum, assignEdge, fresh, assign, values, landingVertex, line, edgeOfLine}
 use Rattle.graph.specs.Agree.{Agree}
 use Rattle.graph.specs.PeelingLaws.{front-edge, reached-peeled}
@@ -59,16 +62,29 @@ module _ (G : Graph) (g : ℕ → ℕ → ℕ) (same : (e j : ℕ) → e < G .ed
   follow-all-same removed e zero waiting l h = refl
   follow-all-same removed e (suc k) waiting l h = rw (follow-all-same removed e k waiting l (omega arith), same e k l (omega arith)) (follow-same removed (g e k) _)
 
-  -- from each moment of the run: what waits are edges
+  -- at each moment of the run the front is an edge
+  front-same : {removed waiting : List ℕ} {front : ℕ} → Reached G removed (front ∷ waiting) → followAll G (removed ++ front ∷ []) front arity waiting ≡ followAll (renamed G g) (removed ++ front ∷ []) front arity waiting
+  front-same {waiting = waiting} {front} r = follow-all-same _ front arity waiting (front-edge G (reached-peeled G r .sound)) (omega arith)
+
   peel-same : (k : ℕ) {removed waiting : List ℕ} → Reached G removed waiting → peel G k removed waiting ≡ peel (renamed G g) k removed waiting
   unfolding peel
   peel-same zero r = refl
   peel-same (suc k) {waiting = []} r = refl
-  peel-same (suc k) {removed} {waiting = (front ∷ waiting)} r = peel-same k (step r) ∙ ap (peel (renamed G g) k (removed ++ front ∷ [])) (follow-all-same _ front arity waiting (front-edge G (reached-peeled G r .sound)) (omega arith))
+  peel-same (suc k) {removed} {waiting = (front ∷ waiting)} r = peel-same k (step r) ∙ ap (peel (renamed G g) k (removed ++ front ∷ [])) (front-same r)
 
   removal-same : removalList G ≡ removalList (renamed G g)
   unfolding removalList
   removal-same = peel-same edges start ∙ ap (peel (renamed G g) edges []) first-waiting-same
+
+  most-from-same : (k : ℕ) {removed waiting : List ℕ} → Reached G removed waiting → mostFrom G k removed waiting ≡ mostFrom (renamed G g) k removed waiting
+  unfolding mostFrom
+  most-from-same zero r = refl
+  most-from-same (suc k) {waiting = []} r = refl
+  most-from-same (suc k) {removed} {waiting = (front ∷ waiting)} r = ap (larger (length (front ∷ waiting))) (most-from-same k (step r) ∙ ap (mostFrom (renamed G g) k (removed ++ front ∷ [])) (front-same r))
+
+  most-same : mostWaiting G ≡ mostWaiting (renamed G g)
+  unfolding mostWaiting
+  most-same = most-from-same edges start ∙ ap (mostFrom (renamed G g) edges []) first-waiting-same
 
   -- ---- the assignment
 
@@ -118,6 +134,10 @@ module _ {G H : Graph} (a : Agree G H) where
   pub agree-number : numberLeft G ≡ numberLeft H
   unfolding numberLeft
   agree-number = λ i. count (a .sameEdges i) (fun-ext agree-left i)
+
+  -- as many wait at once
+  pub agree-most : mostWaiting G ≡ mostWaiting H
+  agree-most = most-same G (H .vertexOf) (a .sameVertices) ∙ ap mostWaiting is-renamed
 
   -- each vertex has the same value, also one past the vertices
   pub agree-values : (x : ℕ) → values G x ≡ values H x

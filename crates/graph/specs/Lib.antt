@@ -1,6 +1,7 @@
 pub mod Graph
 pub mod Peeling
 pub mod Run
+pub mod Waiting
 pub mod Moment
 pub mod Group
 pub mod Within
@@ -10,6 +11,7 @@ pub mod AFewGraphs
 pub mod DegreeLaws
 pub mod QueueLaws
 pub mod PeelingLaws
+pub mod WaitingLaws
 pub mod GroupLaws
 pub mod WithinLaws
 pub mod OrderLaws

@@ -169,6 +169,9 @@ module _ (G : Graph) where
   pub ever-waiting-once : (e : ℕ) → occurrences e (everWaiting G) ≤ 1
   ever-waiting-once e = rw ever-waiting-removed (removal-once e)
 
+  pub ever-waiting-most : length (everWaiting G) ≤ edges
+  ever-waiting-most = rw ever-waiting-removed (omega (arith, reached-room removal-reached))
+
   -- the edges left over are those that the removal list lacks
   pub left-and-removed : numberLeft G + length (removalList G) ≡ edges
   unfolding numberLeft leftOver unremoved

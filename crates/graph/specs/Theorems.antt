@@ -10,16 +10,18 @@ use Rattle.graph.specs.Graph.{Graph, Proper, size}
 use Rattle.graph.specs.Group.{Group}
 use Rattle.graph.specs.Peeling.{peel, removalList, leftOver, numberLeft}
 use Rattle.graph.specs.Run.{Reached, everWaiting}
+use Rattle.graph.specs.Waiting.{mostWaiting, SoManyWait}
 use Rattle.graph.specs.Within.{Within}
 use Rattle.graph.specs.Agree.{Agree}
 use Rattle.graph.specs.Assignment.{assigned, assignedBelow, assign, values, landingVertex, line, edgeOfLine}
-use Rattle.graph.specs.PeelingLaws.{reached-once, reached-room, reached-removal, ever-waiting-removed, ever-waiting-once, left-and-removed}
+use Rattle.graph.specs.PeelingLaws.{reached-once, reached-room, reached-removal, ever-waiting-removed, ever-waiting-once, ever-waiting-most, left-and-removed}
+use Rattle.graph.specs.WaitingLaws.{most-bound, most-attained, most-edges}
 use Rattle.graph.specs.GroupLaws.{left-group, group-left, refused-exactly, largest-bound, largest-attained, twins-left}
 use Rattle.graph.specs.AssignmentLaws.{values-most, drop-unassigned}
 use Rattle.graph.specs.LandingLaws.{landing-inside, landing-assigned, landing-own, assigned-exactly, assigned-number}
 use Rattle.graph.specs.LineLaws.{line-below, line-own, line-onto, edge-line, line-edge}
 use Rattle.graph.specs.WithinLaws.{within-left, within-number, within-none, same-number, same-left}
-use Rattle.graph.specs.AgreeLaws.{agree-left, agree-number, agree-values, agree-line, agree-edge}
+use Rattle.graph.specs.AgreeLaws.{agree-left, agree-number, agree-most, agree-values, agree-line, agree-edge}
 
 module _ (G : Graph) where
   open Graph G using (edges, arity, vertices, vertexOf)
@@ -71,6 +73,22 @@ module _ (G : Graph) where
   -- in the whole run no edge enters the queue twice
   pub no-edge-enters-the-queue-twice : (e : ℕ) → occurrences e (everWaiting G) ≤ 1
   no-edge-enters-the-queue-twice = ever-waiting-once G
+
+  -- and all that ever enter it are at most as many as there are edges
+  pub a-place-for-each-edge-is-enough : length (everWaiting G) ≤ edges
+  a-place-for-each-edge-is-enough = ever-waiting-most G
+
+  -- the most that wait at once, counted after the start and after each step: at no moment do more wait
+  pub no-more-wait-at-once : {removed waiting : List ℕ} → Reached G removed waiting → length waiting ≤ mostWaiting G
+  no-more-wait-at-once = most-bound G
+
+  -- at some moment so many do
+  pub so-many-wait-at-once : SoManyWait G (mostWaiting G)
+  so-many-wait-at-once = most-attained G
+
+  -- and they are at most as many as there are edges
+  pub the-most-is-at-most-the-edges : mostWaiting G ≤ edges
+  the-most-is-at-most-the-edges = most-edges G
 
   -- the edges left over and those removed are together as many as there are
   pub left-over-and-removed-make-all : numberLeft G + length (removalList G) ≡ edges
@@ -158,6 +176,10 @@ module _ {G H : Graph} (a : Agree G H) where
   -- and as many
   pub graphs-that-agree-leave-as-many : numberLeft G ≡ numberLeft H
   graphs-that-agree-leave-as-many = agree-number a
+
+  -- as many wait at once
+  pub graphs-that-agree-let-as-many-wait : mostWaiting G ≡ mostWaiting H
+  graphs-that-agree-let-as-many-wait = agree-most a
 
   -- each vertex has the same value
   pub graphs-that-agree-have-the-same-values : (x : ℕ) → values G x ≡ values H x

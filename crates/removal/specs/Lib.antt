@@ -6,3 +6,4 @@ pub mod Queue
 pub mod FirstQueueSteps
 pub mod QueueSteps
 pub mod PeelSteps
+pub mod RunSteps

@@ -1,42 +1,27 @@
--- One turn of the peeling, over the arrays: the front edge is removed, and what follows it joins. Assumes nothing.
+-- One step of the peeling, over the arrays: the front edge is removed, and what follows it joins. Assumes nothing.
 -- D, C, M and O stand for the arrays of degrees, index sums, marks and order; a prime marks what has become of one.
 use mathlib.Core.Path.{_≡_, sym, ap, _∙_}
 use mathlib.Core.Logic.{_≢_}
 use mathlib.Core.List.{List, [], _∷_, _++_}
-use Prim.Native.Nat.{ℕ, suc, _+_, _-_, _≤_, _<_}
+use Prim.Native.Nat.{ℕ, _+_, _-_, _≤_, _<_}
 use native.Mathlib.Numerals.{add-one}
 use native.Mathlib.Omega.{arith}
-use lib.ListN.{length, getD, set, take, drop, length-append, length-take, length-set, drop-of-length-le}
+use lib.ListN.{length, getD, set, take, drop, length-append, length-set}
 use lib.Seq.{take-suc, length-take-le, take-take, getD-take, getD-set-same, drop-cons, take-at, drop-at}
 use Rattle.counting.specs.Lists.{occurrences}
 use Rattle.counting.specs.OccurrenceLaws.{occurrences-back}
 use Rattle.graph.specs.Graph.{Graph}
-use Rattle.graph.specs.Peeling.{unremoved, firstWaiting, followAll, peel, removalList}
+use Rattle.graph.specs.Peeling.{unremoved, followAll}
+use Rattle.graph.specs.Run.{Reached, step}
 use Rattle.graph.specs.DegreeLaws.{OneMore, removed-one-more}
 use Rattle.graph.specs.Moment.{Sound}
-use Rattle.graph.specs.QueueLaws.{follow-all-sound}
-use Rattle.graph.specs.PeelingLaws.{start-peeled, front-edge, front-absent, step-sound, peel-none}
-use Rattle.removal.specs.Arrays.{graphIn, vertexAt, Held, Wide, Tallied}
+use Rattle.graph.specs.PeelingLaws.{front-edge, front-absent, step-sound, reached-peeled}
+use Rattle.removal.specs.Arrays.{graphIn, vertexAt, Wide}
 use Rattle.removal.specs.Linking.{Added}
 use Rattle.removal.specs.LinkingSteps.{added-none, UnlinkTurn, unlink-turn}
 use Rattle.removal.specs.TallyLaws.{tallied-less, tallied-enough, left-degree, left-sum}
-use Rattle.removal.specs.Queue.{removedOf, waitingOf, Queued, Ready, Going, Starts, Joinable, Joined, Removed}
+use Rattle.removal.specs.Queue.{removedOf, waitingOf, Queued, Ready, Going, Stepped, Joinable, Joined}
 use Rattle.removal.specs.QueueSteps.{removed-waiting, Turn, c-below, joins-none, can-join, joins-one}
-
--- the first queue stands in the array: the peeling can start
-pub starts-ready : {n r m : ℕ} {edges D C M O : List ℕ} {tail : ℕ} → Held n r m edges → Wide m D C → length M ≡ n → length O ≡ n → Tallied (graphIn n r m edges) (unremoved []) D C → Queued n [] (firstWaiting (graphIn n r m edges)) M O tail → Starts n r m edges D C M O tail
-starts-ready {n} {r} {m} {edges} held wide forMarks forOrder tallied q =
-    record {
-      high = q .high;
-      ready = rw (q .list) (record { held = held; wide = wide; forMarks = forMarks; forOrder = forOrder; sound = start-peeled (graphIn n r m edges) .sound; tallied = tallied; marks = q .marks });
-      isFirst = q .list;
-    }
-
-pub going-start : {n r m : ℕ} {edges D C M O : List ℕ} {tail : ℕ} → Starts n r m edges D C M O tail → Going n r m edges D C M O 0 tail
-unfolding removalList
-going-start {n} s = let z : n - 0 ≡ n = omega arith in record { low = omega arith; high = s .high; ready = s .ready; same = rw (z, s .isFirst) }
-
--- ---- the front edge is removed
 
 -- its first j vertices are looked at: it is off them, and what is left alone on them has joined
 pub record Removing (n r m : ℕ) (edges D C O : List ℕ) (head tail : ℕ) (D′ C′ M′ O′ : List ℕ) (t j : ℕ) : Type 0 where
@@ -57,16 +42,19 @@ module _ {n r m : ℕ} {edges D C M O : List ℕ} {head tail : ℕ} (g : Going n
   abbrev e : ℕ
   e = getD O head 0
 
-  front : waitingOf O head tail ≡ e ∷ waitingOf O (head + 1) tail
+  pub front : waitingOf O head tail ≡ e ∷ waitingOf O (head + 1) tail
   front =
       let l : head < length (take tail O) = omega (arith, R .forOrder, g .high, length-take-le tail O (omega (arith, R .forOrder, g .high))) in
       rw (add-one head, ← getD-take tail O head 0 more-wait) (drop-cons (take tail O) head 0 l)
 
-  removed-more : removedOf O (head + 1) ≡ removedOf O head ++ e ∷ []
+  pub removed-more : removedOf O (head + 1) ≡ removedOf O head ++ e ∷ []
   removed-more = rw (add-one head) (take-suc O head 0 (omega (arith, R .forOrder, g .high)))
 
+  reached-front : Reached G (removedOf O head) (e ∷ waitingOf O (head + 1) tail)
+  reached-front = rw front at (R .reached)
+
   sound-front : Sound G (removedOf O head) (e ∷ waitingOf O (head + 1) tail)
-  sound-front = rw front at (R .sound)
+  sound-front = reached-peeled G reached-front .sound
 
   sound-removed : Sound G (removedOf O (head + 1)) (waitingOf O (head + 1) tail)
   sound-removed = rw removed-more (step-sound G sound-front)
@@ -161,10 +149,8 @@ module _ {n r m : ℕ} {edges D C M O : List ℕ} {head tail : ℕ} (g : Going n
       now-waiting : waitingOf O′ (head + 1) t ≡ joined
       now-waiting = ap (drop (head + 1)) (Q .list) ∙ drop-at (take (head + 1) O) _ (head + 1) len
 
-      -- from there the peeling gives what it gave
-      peel-turn : peel G (n - (head + 1)) (removedOf O (head + 1)) joined ≡ peel G (n - head) (removedOf O head) (waitingOf O head tail)
-      unfolding peel
-      peel-turn = let k : n - head ≡ suc (n - (head + 1)) = omega (arith, g .high) in rw (front, removed-more, k)
+      reached-next : Reached G (removedOf O (head + 1)) joined
+      reached-next = rw removed-more (step reached-front)
 
       pub removing-all : Going n r m edges D′ C′ M′ O′ (head + 1) t
       removing-all =
@@ -178,20 +164,11 @@ module _ {n r m : ℕ} {edges D C M O : List ℕ} {head tail : ℕ} (g : Going n
                   wide = s .wide;
                   forMarks = s .forMarks;
                   forOrder = s .forOrder;
-                  sound = follow-all-sound G (removedOf O (head + 1)) e r _ sound-removed;
+                  reached = reached-next;
                   tallied = tallied-less (R .held) more front-below (rw all at (s .taken)) (R .tallied);
                   marks = Q .marks;
                 });
-            same = rw (same-removed, now-waiting) (peel-turn ∙ g .same);
           }
 
--- ---- at the end none waits
-
-pub going-end : {n r m : ℕ} {edges D C M O : List ℕ} {head tail : ℕ} → Going n r m edges D C M O head tail → tail ≤ head → Removed (graphIn n r m edges) D C O head
-going-end {n} {r} {m} {edges} {O = O} {head} {tail} g h =
-    let z : length (take tail O) ≤ head = omega (arith, length-take tail O) in
-    record {
-      most = omega (arith, g .low, g .high);
-      list = sym (ap (peel (graphIn n r m edges) (n - head) (take head O)) (drop-of-length-le (take tail O) z) ∙ peel-none (graphIn n r m edges) (n - head) (take head O)) ∙ g .same;
-      tallied = g .ready .tallied;
-    }
+      pub removing-stepped : Stepped G O head tail O′ t
+      removing-stepped = record { removed = same-removed; waiting = now-waiting }

@@ -6,8 +6,9 @@ use Prim.Native.Nat.{ℕ, _+_, _-_, _≤_, _<_}
 use lib.ListN.{length, getD, set, take, drop}
 use Rattle.counting.specs.Lists.{occurrences}
 use Rattle.graph.specs.Graph.{Graph}
-use Rattle.graph.specs.Peeling.{unremoved, firstWaiting, peel, removalList}
-use Rattle.graph.specs.Moment.{Sound}
+use Rattle.graph.specs.Peeling.{unremoved, firstWaiting, followAll, removalList, numberLeft}
+use Rattle.graph.specs.Run.{Reached}
+use Rattle.graph.specs.Waiting.{mostWaiting}
 use Rattle.counting.specs.Holds.{Holds}
 use Rattle.counting.specs.Widths.{twoBytes}
 use Rattle.removal.specs.Arrays.{graphIn, Held, Wide, Tallied}
@@ -29,22 +30,26 @@ pub record Queued (n : ℕ) (removed waiting queued order : List ℕ) (t : ℕ) 
   pub list : take t order ≡ removed ++ waiting
   pub marks : Marked n removed waiting queued
 
--- the arrays at a moment of the peeling
+-- the arrays at a moment of the run
 pub record Ready (n r m : ℕ) (edges degrees sums queued order removed waiting : List ℕ) : Type 0 where
   pub held : Held n r m edges
   pub wide : Wide m degrees sums
   pub forMarks : length queued ≡ n
   pub forOrder : length order ≡ n
-  pub sound : Sound (graphIn n r m edges) removed waiting
+  pub reached : Reached (graphIn n r m edges) removed waiting
   pub tallied : Tallied (graphIn n r m edges) (unremoved removed) degrees sums
   pub marks : Marked n removed waiting queued
 
--- between two steps: the arrays are ready, and from here the peeling gives the removal list
+-- between two steps
 pub record Going (n r m : ℕ) (edges degrees sums queued order : List ℕ) (head tail : ℕ) : Type 0 where
   pub low : head ≤ tail
   pub high : tail ≤ n
   pub ready : Ready n r m edges degrees sums queued order (removedOf order head) (waitingOf order head tail)
-  pub same : peel (graphIn n r m edges) (n - head) (removedOf order head) (waitingOf order head tail) ≡ removalList (graphIn n r m edges)
+
+-- from the one to the other: the front edge is removed, and those that follow it have joined
+pub record Stepped (G : Graph) (order : List ℕ) (head tail : ℕ) (order′ : List ℕ) (tail′ : ℕ) : Type 0 where
+  pub removed : removedOf order′ (head + 1) ≡ removedOf order (head + 1)
+  pub waiting : waitingOf order′ (head + 1) tail′ ≡ followAll G (removedOf order (head + 1)) (getD order head 0) (G .arity) (waitingOf order (head + 1) tail)
 
 -- the arrays at its start: the first queue waits
 pub record Starts (n r m : ℕ) (edges degrees sums queued order : List ℕ) (tail : ℕ) : Type 0 where
@@ -52,11 +57,12 @@ pub record Starts (n r m : ℕ) (edges degrees sums queued order : List ℕ) (ta
   pub ready : Ready n r m edges degrees sums queued order [] (take tail order)
   pub isFirst : take tail order ≡ firstWaiting (graphIn n r m edges)
 
--- and at its end: so many edges are removed, and the degrees and sums are those of the others
-pub record Removed (G : Graph) (degrees sums order : List ℕ) (removed : ℕ) : Type 0 where
-  pub most : removed ≤ G .edges
-  pub list : removedOf order removed ≡ removalList G
-  pub tallied : Tallied G (unremoved (removedOf order removed)) degrees sums
+-- and at its end: so many edges are left over, so many waited at once at the most, the others stand in the order of their removal, and degrees and sums are those of the edges left over
+pub record Removed (G : Graph) (degrees sums order : List ℕ) (left most : ℕ) : Type 0 where
+  pub isLeft : left ≡ numberLeft G
+  pub isMost : most ≡ mostWaiting G
+  pub list : removedOf order (G .edges - left) ≡ removalList G
+  pub tallied : Tallied G (unremoved (removalList G)) degrees sums
 
 -- ---- an edge joins the back of the queue, at place t
 

@@ -11,7 +11,13 @@ ghost use lib.ListN.{length};
 ghost use Rattle.removal.specs.Arrays.{Held, Untallied, graphIn};
 ghost use Rattle.removal.specs.Queue.{Removed};
 
-// Peels all edges that can be removed, and returns how many were: they stand in order, first removed first. `queued` marks each edge that ever waited. `degrees` and `sums` are lent with 0 in each place.
+// How many edges peeling leaves over, and how many waited at once at the most.
+pub struct Counts {
+    pub left: usize,
+    pub most: usize,
+}
+
+// Peels all edges that can be removed: they stand in order, first removed first. `queued` marks each edge that ever waited. `degrees` and `sums` are lent with 0 in each place.
 pub fn remove_all(
     r: usize,
     edges: &[u16],
@@ -19,11 +25,11 @@ pub fn remove_all(
     sums: &mut [u32],
     queued: &mut [u16],
     order: &mut [u16],
-) -> usize
+) -> Counts
     requires held { ⌜ Held (length (now order)) r (length (now degrees)) (now edges) ⌝ }
     requires even { ⌜ (length (now sums) ≡ length (now degrees)) × (length (now queued) ≡ length (now order)) ⌝ }
     requires clear { ⌜ Untallied (length (now degrees)) (now degrees) (now sums) ⌝ }
-    ensures { λ removed. ⌜ Removed (graphIn (length (now (order .entry))) r (length (now (degrees .entry))) (now (edges .entry))) (now (degrees .exit)) (now (sums .exit)) (now (order .exit)) removed ⌝ }
+    ensures { λ counts. ⌜ Removed (graphIn (length (now (order .entry))) r (length (now (degrees .entry))) (now (edges .entry))) (now (degrees .exit)) (now (sums .exit)) (now (order .exit)) (counts .left) (counts .most) ⌝ }
 {
     tally(order.len(), r, edges, degrees, sums);
     let tail = first_queue(r, edges, degrees, queued, order);

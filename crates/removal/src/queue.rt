@@ -1,4 +1,5 @@
 // The waiting queue and the removal list in one array: the removed edges stand before `head`, those that wait from there up to `tail`.
+use crate::Counts;
 use crate::edges::vertex;
 use crate::tally::first_of_degree;
 ghost use mathlib.Core.Path.{_≡_};
@@ -8,7 +9,8 @@ ghost use lib.ListN.{length};
 ghost use Rattle.graph.specs.Peeling.{degree, firstWaiting};
 ghost use Rattle.counting.specs.Holds.{Holds};
 ghost use Rattle.removal.specs.Arrays.{Held, graphIn};
-ghost use Rattle.removal.specs.Queue.{Queued, Joinable, Joined, Going, Starts, Removed};
+ghost use Rattle.counting.specs.Larger.{larger};
+ghost use Rattle.removal.specs.Queue.{Queued, Joinable, Joined, Going, Stepped, Starts, Removed};
 
 // The first queue: every edge, in list order, that has a vertex of degree 1. Returns its length, and marks the edges in it.
 pub fn first_queue(
@@ -64,7 +66,8 @@ fn remove_front(
 ) -> usize
     requires some { ⌜ head < tail ⌝ }
     requires going { ⌜ Going (length (now order)) r (length (now degrees)) (now edges) (now degrees) (now sums) (now queued) (now order) head tail ⌝ }
-    ensures { λ t. ⌜ Going (length (now (order .entry))) r (length (now (degrees .entry))) (now (edges .entry)) (now (degrees .exit)) (now (sums .exit)) (now (queued .exit)) (now (order .exit)) (head + 1) t ⌝ }
+    ensures going { λ t. ⌜ Going (length (now (order .entry))) r (length (now (degrees .entry))) (now (edges .entry)) (now (degrees .exit)) (now (sums .exit)) (now (queued .exit)) (now (order .exit)) (head + 1) t ⌝ }
+    ensures stepped { λ t. ⌜ Stepped (graphIn (length (now (order .entry))) r (length (now (degrees .entry))) (now (edges .entry))) (now (order .entry)) head tail (now (order .exit)) t ⌝ }
 {
     let e = order[head] as usize;
     let mut t = tail;
@@ -83,7 +86,17 @@ fn remove_front(
     t
 }
 
-// Peels from the first queue, order[..tail], and returns how many edges were removed: they stand in order, first removed first.
+// The larger of two numbers.
+fn larger(a: usize, b: usize) -> usize
+    ensures { λ c. ⌜ c ≡ larger a b ⌝ }
+{
+    if a < b {
+        return b;
+    }
+    a
+}
+
+// Peels from the first queue, order[..tail]: the removed edges stand in order, first removed first. Counts those that wait after the start and after each step.
 pub fn peel(
     r: usize,
     tail: usize,
@@ -92,15 +105,19 @@ pub fn peel(
     sums: &mut [u32],
     queued: &mut [u16],
     order: &mut [u16],
-) -> usize
+) -> Counts
     requires { ⌜ Starts (length (now order)) r (length (now degrees)) (now edges) (now degrees) (now sums) (now queued) (now order) tail ⌝ }
-    ensures { λ removed. ⌜ Removed (graphIn (length (now (order .entry))) r (length (now (degrees .entry))) (now (edges .entry))) (now (degrees .exit)) (now (sums .exit)) (now (order .exit)) removed ⌝ }
+    ensures { λ counts. ⌜ Removed (graphIn (length (now (order .entry))) r (length (now (degrees .entry))) (now (edges .entry))) (now (degrees .exit)) (now (sums .exit)) (now (order .exit)) (counts .left) (counts .most) ⌝ }
 {
     let mut head = 0;
     let mut t = tail;
+    let mut most = tail;
     while head < t {
-        t = remove_front(r, head, t, edges, degrees, sums, queued, order);
+        let end = remove_front(r, head, t, edges, degrees, sums, queued, order);
         head += 1;
+        most = larger(most, end - head);
+        t = end;
     }
-    head
+    let left = order.len() - head;
+    Counts { left, most }
 }

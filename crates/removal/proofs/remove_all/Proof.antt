@@ -2,7 +2,7 @@
 use mathlib.Core.Path.{_≡_, _∙_}
 use lib.ListN.{length}
 use Rattle.removal.specs.Queue.{Starts}
-use Rattle.removal.specs.PeelSteps.{starts-ready}
+use Rattle.removal.specs.RunSteps.{starts-ready}
 use Rattle.removal.proofs.remove_all.Statement.{statement}
 use Rattle.removal.proofs.remove_all.Tie as tie
 

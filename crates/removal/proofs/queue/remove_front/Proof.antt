@@ -6,7 +6,7 @@ use native.Mathlib.Omega.{arith}
 use lib.ListN.{length, getD}
 use Rattle.removal.specs.LinkingSteps.{UnlinkTurn}
 use Rattle.removal.specs.TallyLaws.{held-vertices}
-use Rattle.removal.specs.PeelSteps.{Removing, front-below, removing-none, off, one-below, one-joins, removing-more, removing-joined, removing-all}
+use Rattle.removal.specs.PeelSteps.{Removing, front-below, removing-none, off, one-below, one-joins, removing-more, removing-joined, removing-all, removing-stepped}
 use Rattle.removal.proofs.queue.remove_front.Statement.{statement}
 use Rattle.removal.proofs.queue.remove_front.Tie as tie
 
@@ -130,7 +130,11 @@ same-length-4 : tie.Need-same-length-4 Inv-loop μ-loop
 same-length-4 c = c .before .loop .inv .forOrder
 
 returns : tie.Need-returns Inv-loop μ-loop
-returns c = let s = start (c .before) in let i = c .before .loop .inv in removing-all (s .pre .1) (s .pre .0) i (omega (arith, i .low))
+returns c =
+    let s = start (c .before) in
+    let i = c .before .loop .inv in
+    let all : c .before .loop .j ≡ s .args .r = omega (arith, i .low) in
+    (removing-all (s .pre .1) (s .pre .0) i all, removing-stepped (s .pre .1) (s .pre .0) i all)
 
 pub remove-front-spec : {M : Type 1} → statement M
 remove-front-spec =
