@@ -5,6 +5,7 @@ use Prim.Native.Nat.{ℕ, _≤_}
 use lib.ListN.{length}
 use Rattle.graph.specs.Graph.{Graph}
 use Rattle.graph.specs.Peeling.{numberLeft}
+use Rattle.graph.specs.Waiting.{mostWaiting}
 use Rattle.graph.specs.Assignment.{blocks, rankEntry, values, edgeOfLine}
 use Rattle.counting.specs.Holds.{Holds}
 use Rattle.removal.specs.Arrays.{Held}
@@ -32,7 +33,8 @@ pub record Lined (G : Graph) (values′ rank keys : List ℕ) : Type 0 where
   pub ofRank : Holds (blocks (G .vertices)) (rankEntry (G .arity) (values G)) rank
   pub ofKeys : Holds (G .edges) (edgeOfLine G) keys
 
--- the number left; and where nothing is left the lines
-pub record Arranged (G : Graph) (values′ rank keys : List ℕ) (left : ℕ) : Type 0 where
+-- the number left and the most that waited at once; and where nothing is left the lines
+pub record Arranged (G : Graph) (values′ rank keys : List ℕ) (left most : ℕ) : Type 0 where
   pub isLeft : left ≡ numberLeft G
+  pub isMost : most ≡ mostWaiting G
   pub lined : left ≡ 0 → Lined G values′ rank keys

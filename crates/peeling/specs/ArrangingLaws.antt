@@ -3,16 +3,16 @@
 use mathlib.Core.Path.{_≡_, sym, ap, _∙_}
 use mathlib.Core.Bool.{not}
 use mathlib.Core.List.{List, _++_}
-use Prim.Native.Nat.{ℕ, _+_, _*_, _≤_, _<_}
+use Prim.Native.Nat.{ℕ, _-_, _*_, _≤_, _<_}
 use native.Mathlib.Omega.{arith}
 use lib.ListN.{length, getD, take}
-use lib.Seq.{take-all, length-take-le}
+use lib.Seq.{take-all}
 use borrow.Author.Tests.{eqb-false, ne-eqb, not-true}
 use Rattle.graph.specs.Graph.{Graph}
 use Rattle.graph.specs.Peeling.{numberLeft}
 use Rattle.graph.specs.Assignment.{assignedBelow, blockSize, blocks, rankEntry, values, landingVertex, line, edgeOfLine}
 use Rattle.graph.specs.RankLaws.{below-equal}
-use Rattle.graph.specs.PeelingLaws.{left-and-removed, removed-degree}
+use Rattle.graph.specs.PeelingLaws.{removed-degree}
 use Rattle.graph.specs.LandingLaws.{landing-inside, landing-assigned, assigned-landing, assigned-number}
 use Rattle.graph.specs.LineLaws.{edge-line}
 use Rattle.counting.specs.Holds.{Holds}
@@ -26,20 +26,17 @@ use Rattle.peeling.specs.Arranging.{Lined, Arranged}
 
 -- ---- the end of the peeling
 
-pub removed-number : {G : Graph} {D C O : List ℕ} {removed : ℕ} → Removed G D C O removed → length O ≡ G .edges → numberLeft G + removed ≡ G .edges
-removed-number {G} {O = O} {removed} p o = omega (arith, left-and-removed G, ap length (p .list), length-take-le removed O (omega (arith, p .most)))
-
-pub removed-every : {n r m : ℕ} {edges D C O : List ℕ} {removed : ℕ} → Removed (graphIn n r m edges) D C O removed → length O ≡ n → n ≤ removed → Held n r m edges → Wide m D C → (W : List ℕ) → length W ≡ m → AllRemoved n r m edges O D C W
-removed-every {n} {r} {m} {edges} {O = O} {removed} p o all held wide W forValues =
-    let whole : take removed O ≡ O = take-all removed O (omega arith) in
-    let none : numberLeft (graphIn n r m edges) ≡ 0 = omega (arith, removed-number p o) in
+pub removed-every : {n r m : ℕ} {edges D C O : List ℕ} {left most : ℕ} → Removed (graphIn n r m edges) D C O left most → length O ≡ n → left ≡ 0 → Held n r m edges → Wide m D C → (W : List ℕ) → length W ≡ m → AllRemoved n r m edges O D C W
+removed-every {n} {r} {m} {edges} {O = O} {left} p o all held wide W forValues =
+    let whole : take (n - left) O ≡ O = take-all (n - left) O (omega arith) in
+    let none : numberLeft (graphIn n r m edges) ≡ 0 = sym (p .isLeft) ∙ all in
     record {
       held = held;
       wide = wide;
       forValues = forValues;
       nothing = none;
       list = sym whole ∙ p .list;
-      unvisited = λ x l. (rw (p .list) at (p .tallied .ofDegrees)) x l ∙ removed-degree (graphIn n r m edges) none x;
+      unvisited = λ x l. p .tallied .ofDegrees x l ∙ removed-degree (graphIn n r m edges) none x;
     }
 
 -- ---- W holds the values, N the edges noted where they land
@@ -84,10 +81,11 @@ module _ {n r m : ℕ} {edges : List ℕ} (held : Held n r m edges) (nothing : n
 
 -- ---- the arrays may be the starts of longer ones
 
-pub arranged-front : {G : Graph} {W R K : List ℕ} {left : ℕ} → Arranged G W R K left → (W′ R′ K′ : List ℕ) → G .vertices ≤ length W → blocks (G .vertices) ≤ length R → G .edges ≤ length K → Arranged G (W ++ W′) (R ++ R′) (K ++ K′) left
+pub arranged-front : {G : Graph} {W R K : List ℕ} {left most : ℕ} → Arranged G W R K left most → (W′ R′ K′ : List ℕ) → G .vertices ≤ length W → blocks (G .vertices) ≤ length R → G .edges ≤ length K → Arranged G (W ++ W′) (R ++ R′) (K ++ K′) left most
 arranged-front {G} {W} {R} {K} a W′ R′ K′ w r k =
     record {
       isLeft = a .isLeft;
+      isMost = a .isMost;
       lined =
           λ z.
           let l = a .lined z in

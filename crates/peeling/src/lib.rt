@@ -5,6 +5,7 @@ mod ranking; // ranking.rt: the rank entries, and the order of the edges by line
 use crate::assigning::assign;
 use crate::ranking::BLOCK;
 use crate::ranking::rank_vertices;
+use removal::Counts;
 use removal::remove_all;
 ghost use mathlib.Core.Path.{_≡_};
 ghost use Prim.Native.Nat.{_*_};
@@ -34,7 +35,7 @@ fn give_lines(
     rank_vertices(r, values, sums, rank, keys);
 }
 
-// The whole sequence over arrays with an entry for each vertex, each edge and each block. Returns the number of edges left over; where none is, the values, the rank entries and the edges in the order of their lines are written.
+// The whole sequence over arrays with an entry for each vertex, each edge and each block. Returns how many edges are left over and how many waited at once at the most; where none is left over, the values, the rank entries and the edges in the order of their lines are written.
 // While edges are removed, `keys` has the marks of those that ever waited.
 fn arrange_all(
     r: usize,
@@ -45,20 +46,19 @@ fn arrange_all(
     values: &mut [u8],
     rank: &mut [u16],
     keys: &mut [u16],
-) -> usize
+) -> Counts
     requires exact { ⌜ Exact (length (now order)) r (length (now degrees)) (now edges) (now sums) (now values) (now rank) (now keys) ⌝ }
     requires clear { ⌜ Untallied (length (now degrees)) (now degrees) (now sums) ⌝ }
-    ensures { λ left. ⌜ Arranged (graphIn (length (now (order .entry))) r (length (now (degrees .entry))) (now (edges .entry))) (now (values .exit)) (now (rank .exit)) (now (keys .exit)) left ⌝ }
+    ensures { λ counts. ⌜ Arranged (graphIn (length (now (order .entry))) r (length (now (degrees .entry))) (now (edges .entry))) (now (values .exit)) (now (rank .exit)) (now (keys .exit)) (counts .left) (counts .most) ⌝ }
 {
-    let removed = remove_all(r, edges, degrees, sums, keys, order);
-    if removed < order.len() {
-        return order.len() - removed;
+    let counts = remove_all(r, edges, degrees, sums, keys, order);
+    if counts.left == 0 {
+        give_lines(r, edges, order, degrees, sums, values, rank, keys);
     }
-    give_lines(r, edges, order, degrees, sums, values, rank, keys);
-    0
+    counts
 }
 
-// The whole sequence for n edges of r vertices, v to a part; the arrays may be longer than needed, and `degrees` and `sums` are lent with 0 in each place. Returns the number of edges left over; where none is, the values, the rank entries and the edges in the order of their lines stand at the starts of their arrays.
+// The whole sequence for n edges of r vertices, v to a part; the arrays may be longer than needed, and `degrees` and `sums` are lent with 0 in each place. Returns how many edges are left over and how many waited at once at the most; where none is left over, the values, the rank entries and the edges in the order of their lines stand at the starts of their arrays.
 pub fn arrange(
     n: usize,
     r: usize,
@@ -70,11 +70,11 @@ pub fn arrange(
     values: &mut [u8],
     rank: &mut [u16],
     keys: &mut [u16],
-) -> usize
+) -> Counts
     requires held { ⌜ Held n r (r * v) (now edges) ⌝ }
     requires long { ⌜ LongEnough n (r * v) (now degrees) (now sums) (now order) (now values) (now rank) (now keys) ⌝ }
     requires clear { ⌜ Untallied (r * v) (now degrees) (now sums) ⌝ }
-    ensures { λ left. ⌜ Arranged (graphIn n r (r * v) (now (edges .entry))) (now (values .exit)) (now (rank .exit)) (now (keys .exit)) left ⌝ }
+    ensures { λ counts. ⌜ Arranged (graphIn n r (r * v) (now (edges .entry))) (now (values .exit)) (now (rank .exit)) (now (keys .exit)) (counts .left) (counts .most) ⌝ }
 {
     let m = r * v;
     let blocks = (m + (BLOCK - 1)) / BLOCK;
