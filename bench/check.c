@@ -113,21 +113,43 @@ static struct lent lent_for(const struct list *l, size_t r)
     return (struct lent){l->run, l->run_len, l->ends, l->n, r, f->v, f->weights, DS_WEIGHTS_OF_A_PART * r, BUFFER};
 }
 
+/* The same bytes before each build. */
+static void colour(uint8_t buffer[BUFFER], uint64_t state)
+{
+    for (size_t i = 0; i < BUFFER; i++)
+        buffer[i] = (uint8_t)next_random(&state);
+}
+
 static struct ds_answer build(build_fn *by, const struct lent *a, uint8_t *buffer)
 {
+    colour(buffer, a->v);
     return by(a->run, a->run_len, a->ends, a->n, a->r, a->v, a->weights, a->weights_len, buffer, a->buffer_len);
+}
+
+static struct ds_counted build_counted(counted_fn *by, const struct lent *a, uint8_t *buffer)
+{
+    colour(buffer, a->v);
+    return by(a->run, a->run_len, a->ends, a->n, a->r, a->v, a->weights, a->weights_len, buffer, a->buffer_len);
+}
+
+/* The library's counted build, held to the plain C version's by the count, and to what its build answered and wrote. */
+static void held_count(const struct list *l, const struct lent *a, struct ds_answer right, const uint8_t buffer[BUFFER])
+{
+    static uint8_t counted[BUFFER], other[BUFFER];
+    struct ds_counted ours = build_counted(ds_build_counted, a, counted), plain = build_counted(plain_build_counted, a, other);
+    expect(ours.number == right.number && ours.place == right.place, "a counted build's answer", l, a->r);
+    expect(ours.most_waiting == plain.most_waiting, "the most codes waiting", l, a->r);
+    expect(memcmp(counted, buffer, BUFFER) == 0, "a counted build's bytes", l, a->r);
 }
 
 /* The library's build, held to the plain C version's by every byte of the buffer; gives its number. */
 static uint32_t held_build(const struct list *l, const struct lent *a, uint8_t buffer[BUFFER])
 {
     static uint8_t other[BUFFER];
-    uint64_t state = a->v;
-    for (size_t i = 0; i < BUFFER; i++)
-        buffer[i] = other[i] = (uint8_t)next_random(&state);
     struct ds_answer ours = build(ds_build, a, buffer), plain = build(plain_build, a, other);
     expect(ours.number == plain.number && ours.place == plain.place, "a build's answer", l, a->r);
     expect(memcmp(buffer, other, BUFFER) == 0, "a build's bytes", l, a->r);
+    held_count(l, a, ours, buffer);
     return ours.number;
 }
 

@@ -39,6 +39,9 @@ struct list {
 typedef struct ds_answer build_fn(const uint8_t *run, size_t run_len, const uint16_t *ends, size_t ends_len, size_t r,
                                   size_t v, const uint16_t *weights, size_t weights_len, uint8_t *buffer,
                                   size_t buffer_len);
+typedef struct ds_counted counted_fn(const uint8_t *run, size_t run_len, const uint16_t *ends, size_t ends_len, size_t r,
+                                     size_t v, const uint16_t *weights, size_t weights_len, uint8_t *buffer,
+                                     size_t buffer_len);
 typedef struct ds_found lookup_fn(const uint8_t *file, size_t file_len, const uint8_t *code, size_t code_len);
 
 typedef struct ds_reported report_fn(const uint8_t *file, size_t file_len, const uint8_t *code, size_t code_len,

@@ -8,6 +8,14 @@
 /* The length of a file within the sizes. */
 size_t plain_length(size_t n, size_t r, size_t v);
 
+/* Counts the codes that wait, and gives the most. */
+struct ds_counted plain_build_counted(const uint8_t *run, size_t run_len,
+                                      const uint16_t *ends, size_t ends_len,
+                                      size_t r, size_t v,
+                                      const uint16_t *weights, size_t weights_len,
+                                      uint8_t *buffer, size_t buffer_len);
+
+/* Counts them too, as the library's does, and leaves the number out of its answer. */
 struct ds_answer plain_build(const uint8_t *run, size_t run_len,
                              const uint16_t *ends, size_t ends_len,
                              size_t r, size_t v,

@@ -18,9 +18,9 @@ struct graph {
     uint8_t value[DS_MOST_VERTICES + VALUES_OF_A_BYTE - 1];
 };
 
-INLINE struct ds_answer answer(uint32_t number, size_t place)
+INLINE struct ds_counted refused(uint32_t number, size_t place)
 {
-    return (struct ds_answer){.number = number, .place = place};
+    return (struct ds_counted){.number = number, .place = place};
 }
 
 /* The lowest code that the ends make wrong; n where only the last end is; n + 1 where all is well. */
@@ -127,13 +127,20 @@ INLINE uint32_t remove_code(struct graph *g, uint32_t k, uint32_t tail, const ui
     return tail;
 }
 
-/* Gives how many codes were removed. A code joins the queue at most once, so removal list and queue are one array. */
-INLINE uint32_t peel(struct graph *g, uint32_t n, const uint32_t r)
+/* How many codes were removed, and the most that waited at once, after the start and after each step. */
+struct peeled {
+    uint32_t removed, most_waiting;
+};
+
+/* A code joins the queue at most once, so removal list and queue are one array. */
+INLINE struct peeled peel(struct graph *g, uint32_t n, const uint32_t r)
 {
-    uint32_t tail = first_queue(g, n, r);
-    for (uint32_t head = 0; head < tail; head++)
-        tail = remove_code(g, g->order[head], tail, r);
-    return tail;
+    uint32_t head = 0, tail = first_queue(g, n, r), most = tail;
+    while (head < tail) {
+        tail = remove_code(g, g->order[head++], tail, r);
+        most = tail - head > most ? tail - head : most;
+    }
+    return (struct peeled){.removed = tail, .most_waiting = most};
 }
 
 /* Assigns code k's vertex j0, where the code then lands: its other vertices keep r or the value that they have. After a
@@ -218,42 +225,53 @@ INLINE void put_keys(const struct graph *g, const uint8_t *run, const uint16_t *
 
 /* ---- The call ----------------------------------------------------------- */
 
-INLINE struct ds_answer build(const uint8_t *run, const uint16_t *ends, const struct layout *at, const uint8_t *weights,
-                              uint8_t *file, const uint32_t r)
+INLINE struct ds_counted build(const uint8_t *run, const uint16_t *ends, const struct layout *at, const uint8_t *weights,
+                               uint8_t *file, const uint32_t r)
 {
     struct graph g;
     uint32_t repeated = fill(&g, run, ends, at, weights, r);
     if (repeated < at->n)
-        return answer(DS_REPEATED, repeated);
-    uint32_t removed = peel(&g, at->n, r);
-    if (removed < at->n)
-        return answer(DS_CYCLIC, at->n - removed);
+        return refused(DS_REPEATED, repeated);
+    struct peeled peeled = peel(&g, at->n, r);
+    if (peeled.removed < at->n)
+        return refused(DS_CYCLIC, at->n - peeled.removed);
     assign(&g, at, r);
     put_header(file, at, weights, r);
     put_values(&g, file, at, r);
     put_keys(&g, run, ends, file, at);
-    return answer(DS_SUCCESS, 0);
+    return (struct ds_counted){.number = DS_SUCCESS, .most_waiting = peeled.most_waiting};
+}
+
+/* Not inlined, so that no compiler leaves the counting out of plain_build. */
+__attribute__((noinline)) struct ds_counted plain_build_counted(const uint8_t *run, size_t run_len, const uint16_t *ends,
+                                                                size_t ends_len, size_t r, size_t v,
+                                                                const uint16_t *weights, size_t weights_len,
+                                                                uint8_t *buffer, size_t buffer_len)
+{
+    if (r != 2 && r != 3)
+        return refused(DS_ARITY, 0);
+    if (v == 0 || v > DS_MOST_VERTICES / r)
+        return refused(DS_PART_SIZE, 0);
+    if (weights_len != DS_WEIGHTS_OF_A_PART * r)
+        return refused(DS_WEIGHTS, 0);
+    if (ends_len > DS_MOST_CODES)
+        return refused(DS_TOO_MANY_CODES, 0);
+    size_t wrong = wrong_code(run_len, ends, ends_len);
+    if (wrong <= ends_len)
+        return refused(DS_CODE_LIST, wrong);
+    struct layout at = layout_of((uint32_t)ends_len, (uint32_t)r, (uint32_t)v);
+    if (buffer_len < at.length)
+        return refused(DS_SHORT_BUFFER, at.length);
+    const uint8_t *bytes = (const uint8_t *)weights;
+    return r == 2 ? build(run, ends, &at, bytes, buffer, 2) : build(run, ends, &at, bytes, buffer, 3);
 }
 
 struct ds_answer plain_build(const uint8_t *run, size_t run_len, const uint16_t *ends, size_t ends_len, size_t r, size_t v,
                              const uint16_t *weights, size_t weights_len, uint8_t *buffer, size_t buffer_len)
 {
-    if (r != 2 && r != 3)
-        return answer(DS_ARITY, 0);
-    if (v == 0 || v > DS_MOST_VERTICES / r)
-        return answer(DS_PART_SIZE, 0);
-    if (weights_len != DS_WEIGHTS_OF_A_PART * r)
-        return answer(DS_WEIGHTS, 0);
-    if (ends_len > DS_MOST_CODES)
-        return answer(DS_TOO_MANY_CODES, 0);
-    size_t wrong = wrong_code(run_len, ends, ends_len);
-    if (wrong <= ends_len)
-        return answer(DS_CODE_LIST, wrong);
-    struct layout at = layout_of((uint32_t)ends_len, (uint32_t)r, (uint32_t)v);
-    if (buffer_len < at.length)
-        return answer(DS_SHORT_BUFFER, at.length);
-    const uint8_t *bytes = (const uint8_t *)weights;
-    return r == 2 ? build(run, ends, &at, bytes, buffer, 2) : build(run, ends, &at, bytes, buffer, 3);
+    struct ds_counted built =
+        plain_build_counted(run, run_len, ends, ends_len, r, v, weights, weights_len, buffer, buffer_len);
+    return (struct ds_answer){.number = built.number, .place = built.place};
 }
 
 size_t plain_length(size_t n, size_t r, size_t v)

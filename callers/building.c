@@ -124,7 +124,7 @@ static void try_long_buffers(void)
     for (size_t i = 0; i < COUNT(more); i++) {
         struct list *list = case_1();
         list->room += more[i];
-        expect_built(list, &file);
+        expect_built(list, CASE_1_WAITING, &file);
         expect_same(&file, case_1_file());
     }
 }

@@ -1,6 +1,6 @@
-/* The calls of include/dronesickle.h from C: document 01's cases, every refusal at its places, files from
- * elsewhere, round trips, signs. Everything is tried twice, with what is lent against the guarded page after it and
- * against the one before it. The first check that is wrong ends the test with words and status 1. */
+/* The calls of include/dronesickle.h from C: document 01's cases, every refusal at its places, codes that wait, files
+ * from elsewhere, round trips, signs. Everything is tried twice, with what is lent against the guarded page after it
+ * and against the one before it. The first check that is wrong ends the test with words and status 1. */
 #include "calls.h"
 
 #include <stdio.h>
@@ -11,6 +11,7 @@ static void try_all(enum side side)
     check_the_pages();
     try_cases();
     try_building();
+    try_waiting();
     try_opening();
     try_looking_up();
     try_showing();

@@ -52,8 +52,9 @@ void add(struct list *list, const void *code, size_t length);
  * and no more. It is the same object each time. */
 struct list *list_of(size_t r, size_t v, const char *words);
 
-/* Document 01's case 1: BA, BB, DA, BC with r = 2 and v = 4. */
+/* Document 01's case 1: BA, BB, DA, BC with r = 2 and v = 4. BB, DA and BC wait at the start, then DA BC, BC BA, BA. */
 struct list *case_1(void);
+enum { CASE_1_WAITING = 3 };
 
 /* n codes of two bytes, (0,0), (0,1), .., with p(0,0) = 256 and p(0,1) = 1: code k has vertex k in part 0 and
  * the first vertex of each other part. */
@@ -93,7 +94,7 @@ enum side { AGAINST_THE_PAGE_AFTER, AGAINST_THE_PAGE_BEFORE };
 void lend_from(enum side side);
 
 /* What is lent, each in an area of its own. */
-enum slice { RUN, ENDS, WEIGHTS, BUFFER, FILE_BYTES, CODE, LEVELS, TIMES, SLICES };
+enum slice { RUN, ENDS, WEIGHTS, BUFFER, COUNTED_BUFFER, FILE_BYTES, CODE, LEVELS, TIMES, SLICES };
 
 /* Lends a copy of some bytes, to be read alone. */
 const void *lend(enum slice slice, const void *bytes, size_t size);
@@ -105,9 +106,11 @@ uint8_t *lend_coloured(enum slice slice, size_t size);
 bool coloured_before(enum slice slice, size_t size);
 bool coloured_after(enum slice slice, size_t size, size_t written);
 
-/* Builds, and copies the whole buffer to the file as the build left it. Its length is that of the file on
- * success, else of the buffer. Checks that no byte but the file's has changed. */
-struct ds_answer call_build(const struct list *list, struct file *file);
+/* Builds by ds_build and by ds_build_counted, each into a buffer of its own, and copies the whole buffer to the file
+ * as they left it. Its length is that of the file on success, else of the buffer. Checks that no byte but the
+ * file's has changed, that both gave the same answer and bytes, and that 1 to n codes waited at once where n codes
+ * were built, since at least one waits at the start; else none. */
+struct ds_counted call_build(const struct list *list, struct file *file);
 
 struct ds_opened call_open(const struct file *file);
 struct ds_found call_lookup(const struct file *file, const void *code, size_t length);
@@ -121,7 +124,8 @@ void check_the_pages(void);
 
 /* ---- expecting.c: calls with the answers they must give ---- */
 
-void expect_built(const struct list *list, struct file *file);
+/* Builds are made by call_build. A refused one gives 0 as the most codes waiting. */
+void expect_built(const struct list *list, size_t most_waiting, struct file *file);
 void expect_build_refused(const struct list *list, unsigned number, size_t place);
 void expect_opened(const struct file *file, size_t n, size_t r, size_t v);
 void expect_open_refused(const struct file *file, unsigned number, size_t place);
@@ -193,6 +197,7 @@ void expect_asked(struct ds_asked given, struct ds_asked right);
 void try_layout(void);        /* layout.c: structs, constants and lengths */
 void try_cases(void);         /* cases.c: document 01's cases 1 to 12 */
 void try_building(void);      /* building.c: refusals 1 to 8 */
+void try_waiting(void);       /* waiting.c: the most codes waiting at once, worked out by hand */
 void try_opening(void);       /* opening.c: refusals 9 to 15, and files from elsewhere */
 void try_looking_up(void);    /* looking_up.c: lookup's refusals, and what a lookup passes over */
 void try_showing(void);       /* showing.c: where a line's code stands */

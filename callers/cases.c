@@ -15,7 +15,7 @@ static size_t code_start(size_t line)
 static void try_cases_1_to_3(void)
 {
     about("case 1: BA, BB, DA, BC");
-    expect_built(case_1(), &file);
+    expect_built(case_1(), CASE_1_WAITING, &file);
     expect_same(&file, case_1_file());
     expect_opened(&file, 4, 2, 4);
     expect_at(&file, "DA", 2, 0);
@@ -36,7 +36,7 @@ static void try_cases_1_to_3(void)
 static void try_case_4(void)
 {
     about("case 4: BA alone");
-    expect_built(list_of(2, 4, "BA"), &file);
+    expect_built(list_of(2, 4, "BA"), 1, &file);
     put_header(&right, 1, 2, 4);
     put_weights(&right, list_of(2, 4, "BA"));
     put_values(&right, "\x8A\xAA", 2);
@@ -65,7 +65,7 @@ static void try_cases_5_to_8(void)
 static void try_case_9(void)
 {
     about("case 9: no codes");
-    expect_built(list_of(2, 4, ""), &file);
+    expect_built(list_of(2, 4, ""), 0, &file);
     put_header(&right, 0, 2, 4);
     put_weights(&right, list_of(2, 4, ""));
     put_values(&right, "\xAA\xAA", 2);
@@ -82,7 +82,7 @@ static void try_case_10(void)
     about("case 10: r = 3, v = 1, all weights 0");
     struct list *list = list_of(3, 1, "BA");
     memset(list->weights, 0, sizeof list->weights);
-    expect_built(list, &file);
+    expect_built(list, 1, &file);
     put_header(&right, 1, 3, 1);
     put_weights(&right, list);
     put_values(&right, "\x3C", 1);
@@ -106,7 +106,7 @@ static void try_case_11_codes(void)
     struct list *list = list_of(2, 4, "");
     add(list, code, DS_LONGEST_CODE);
     list->room = ds_length(1, 2, 4);
-    expect_built(list, &file);
+    expect_built(list, 1, &file);
     expect_opened(&file, 1, 2, 4);
     expect_at(&file, code, DS_LONGEST_CODE, 0);
     expect_shown(&file, 0, code_start(0), code, DS_LONGEST_CODE);
@@ -121,10 +121,10 @@ static void try_case_11_codes(void)
 static void try_case_11_part_sizes(void)
 {
     about("case 11: the largest part sizes");
-    expect_built(list_of(2, 2048, "BA"), &file);
+    expect_built(list_of(2, 2048, "BA"), 1, &file);
     expect_opened(&file, 1, 2, 2048);
     expect_build_refused(list_of(2, 2049, "BA"), DS_PART_SIZE, 0);
-    expect_built(list_of(3, 1365, "BA"), &file);
+    expect_built(list_of(3, 1365, "BA"), 1, &file);
     expect_opened(&file, 1, 3, 1365);
     expect_build_refused(list_of(3, 1366, "BA"), DS_PART_SIZE, 0);
 }
@@ -134,7 +134,7 @@ static void try_case_12(void)
     about("case 12: a buffer of 285 bytes, and of 284");
     struct list *list = case_1();
     list->room = 285;
-    expect_built(list, &file);
+    expect_built(list, CASE_1_WAITING, &file);
     expect_same(&file, case_1_file());
     list = case_1();
     list->room = 284;

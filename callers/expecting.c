@@ -3,21 +3,24 @@
 
 #include <string.h>
 
-static void expect_answer(struct ds_answer given, unsigned number, size_t place)
+static void expect_answer(struct ds_counted given, struct ds_counted right)
 {
-    check(given.number == number && given.place == place, "the build answered %u, place %zu, and not %u, place %zu",
-          given.number, given.place, number, place);
+    check(given.number == right.number && given.place == right.place,
+          "the build answered %u, place %zu, and not %u, place %zu", given.number, given.place, right.number,
+          right.place);
+    check(given.most_waiting == right.most_waiting, "at most %zu codes waited at once, and not %zu", given.most_waiting,
+          right.most_waiting);
 }
 
-void expect_built(const struct list *list, struct file *file)
+void expect_built(const struct list *list, size_t most_waiting, struct file *file)
 {
-    expect_answer(call_build(list, file), DS_SUCCESS, 0);
+    expect_answer(call_build(list, file), (struct ds_counted){.most_waiting = most_waiting});
 }
 
 void expect_build_refused(const struct list *list, unsigned number, size_t place)
 {
     static struct file file;
-    expect_answer(call_build(list, &file), number, place);
+    expect_answer(call_build(list, &file), (struct ds_counted){.number = number, .place = place});
 }
 
 static void expect_opening(struct ds_opened given, struct ds_opened right)

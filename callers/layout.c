@@ -7,6 +7,9 @@ static void try_structs(void)
     check(sizeof(struct ds_answer) == 16 && offsetof(struct ds_answer, number) == 0 &&
               offsetof(struct ds_answer, place) == 8,
           "ds_answer");
+    check(sizeof(struct ds_counted) == 24 && offsetof(struct ds_counted, number) == 0 &&
+              offsetof(struct ds_counted, place) == 8 && offsetof(struct ds_counted, most_waiting) == 16,
+          "ds_counted");
     check(sizeof(struct ds_opened) == 40 && offsetof(struct ds_opened, number) == 0 &&
               offsetof(struct ds_opened, place) == 8 && offsetof(struct ds_opened, n) == 16 &&
               offsetof(struct ds_opened, r) == 24 && offsetof(struct ds_opened, v) == 32,

@@ -99,22 +99,38 @@ bool coloured_after(enum slice slice, size_t size, size_t written)
     return coloured(slice, (size_t)(place(slice, size) - areas[slice]) + written, ROOM);
 }
 
-struct ds_answer call_build(const struct list *list, struct file *file)
+/* Sees that a counted build answered as the build did, and left the same bytes in its area. */
+static void check_counted(const struct list *list, struct ds_answer answer, struct ds_counted counted)
+{
+    size_t most = answer.number == DS_SUCCESS ? list->n : 0;
+    check(counted.number == answer.number && counted.place == answer.place,
+          "the counted build answered %u, place %zu, and the build %u, place %zu", counted.number, counted.place,
+          answer.number, answer.place);
+    check(memcmp(areas[COUNTED_BUFFER], areas[BUFFER], ROOM) == 0, "the counted build left other bytes");
+    check(counted.most_waiting <= most && (counted.most_waiting > 0) == (most > 0),
+          "of %zu codes %zu waited at once, answer %u", list->n, counted.most_waiting, counted.number);
+}
+
+struct ds_counted call_build(const struct list *list, struct file *file)
 {
     const uint8_t *run = lend(RUN, list->run, list->run_len);
     const uint16_t *ends = lend(ENDS, list->ends, list->n * sizeof *list->ends);
     const uint16_t *weights = lend(WEIGHTS, list->weights, list->weights_len * sizeof *list->weights);
     uint8_t *buffer = lend_coloured(BUFFER, list->room);
+    uint8_t *counted_buffer = lend_coloured(COUNTED_BUFFER, list->room);
     struct ds_answer answer =
         ds_build(run, list->run_len, ends, list->n, list->r, list->v, weights, list->weights_len, buffer, list->room);
+    struct ds_counted counted = ds_build_counted(run, list->run_len, ends, list->n, list->r, list->v, weights,
+                                                 list->weights_len, counted_buffer, list->room);
     bool built = answer.number == DS_SUCCESS;
     size_t written = built ? ds_length(list->n, list->r, list->v) : 0;
     check(coloured_before(BUFFER, list->room), "a byte before the buffer has changed");
     check(coloured_after(BUFFER, list->room, written),
           built ? "a byte after the file has changed" : "a refused build wrote");
+    check_counted(list, answer, counted);
     memcpy(file->bytes, buffer, list->room);
     file->length = built ? written : list->room;
-    return answer;
+    return counted;
 }
 
 struct ds_opened call_open(const struct file *file)

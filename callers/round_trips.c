@@ -74,11 +74,12 @@ static void expect_round_trip(const struct list *list)
     expect_nothing_shown(&file, list->n);
 }
 
-/* Each code has a vertex 0 of its own, whose value is 0: the lines are in the order of these vertices. */
+/* Each code has a vertex 0 of its own, whose value is 0: the lines are in the order of these vertices, and all codes
+ * wait at the start. */
 static void try_star(size_t r, size_t v)
 {
     const struct list *list = star(DS_MOST_CODES, r, v);
-    expect_built(list, &file);
+    expect_built(list, DS_MOST_CODES, &file);
     expect_round_trip(list);
     for (size_t k = 0; k < list->n; k += 93)
         expect_at(&file, code_at(list, k), 2, k);
@@ -113,7 +114,7 @@ static void choose_weights(struct list *list)
 static bool builds(struct list *list)
 {
     choose_weights(list);
-    struct ds_answer answer = call_build(list, &file);
+    struct ds_counted answer = call_build(list, &file);
     bool built = answer.number == DS_SUCCESS && answer.place == 0;
     check(built || (answer.number == DS_CYCLIC && answer.place >= 2 && answer.place <= list->n),
           "the build of %zu codes answered %u, place %zu", list->n, answer.number, answer.place);

@@ -14,7 +14,7 @@ static void try_no_codes(void)
 {
     static struct file file;
     about("a sign without lines");
-    expect_built(list_of(2, 4, ""), &file);
+    expect_built(list_of(2, 4, ""), 0, &file);
     clear(&sign, &file, 0);
     expect_stranger(&sign, (struct report){"AA", 2, 1250, 1});
     expect_asked_stranger(&sign, (struct ask){"AA", 2, 1, 1});
@@ -26,7 +26,7 @@ static void try_most_codes(void)
     static struct file file;
     static const size_t lines[] = {0, 1, 255, 256, 257, 1022, 1023};
     about("a sign of 1,024 lines");
-    expect_built(star(DS_MOST_CODES, 3, 1365), &file);
+    expect_built(star(DS_MOST_CODES, 3, 1365), DS_MOST_CODES, &file);
     clear(&sign, &file, DS_MOST_CODES);
     for (size_t i = 0; i < COUNT(lines); i++) {
         const uint8_t code[] = {(uint8_t)(lines[i] / 256), (uint8_t)(lines[i] % 256)};

@@ -90,7 +90,7 @@ static void try_lists(void)
     expect_wrong_lists(case_1_file(), 4, 12, 20);
     about("refusal 23: a file without codes");
     static struct file file;
-    expect_built(list_of(2, 4, ""), &file);
+    expect_built(list_of(2, 4, ""), 0, &file);
     expect_wrong_lists(&file, 0, 1, 0);
     expect_wrong_lists(&file, 0, 0, 4);
 }

@@ -45,7 +45,7 @@ static struct entry *entry_of(struct code code)
  * and a zero byte, since their sums are k, 256 + k and k. */
 static void start(size_t r)
 {
-    expect_built(star(LISTED, r, 64), &file);
+    expect_built(star(LISTED, r, 64), LISTED, &file);
     clear(&sign, &file, LISTED);
     for (size_t k = 0; k < LISTED; k++)
         map[k] = (struct entry){.code = {.bytes = {0, (uint8_t)k}, .length = 2}};

@@ -37,6 +37,13 @@ static void *build(void *unused)
     return unused;
 }
 
+static void *build_counted(void *unused)
+{
+    ds_build_counted(list->run, list->run_len, list->ends, list->n, list->r, list->v, list->weights, list->weights_len,
+                     file.bytes, list->room);
+    return unused;
+}
+
 static void *open_it(void *unused)
 {
     ds_open(file.bytes, list->room);
@@ -98,6 +105,7 @@ void try_stack(void)
     about("the stack");
     list = star(DS_MOST_CODES, 3, 1365);
     expect_at_most(build, "ds_build", STACK_OF_A_BUILD);
+    expect_at_most(build_counted, "ds_build_counted", STACK_OF_A_BUILD);
     expect_at_most(open_it, "ds_open", STACK_OF_OTHERS);
     expect_at_most(look_up, "ds_lookup", STACK_OF_OTHERS);
     expect_at_most(show, "ds_show", STACK_OF_OTHERS);

@@ -1,5 +1,5 @@
-/* The calls from C, each of them: builds the directory of a small club's gauges, opens it, looks codes up, shows the
- * lines, brings reports and asks for them. include/dronesickle.h says what each call takes and gives.
+/* The calls from C: builds the directory of a small club's gauges, opens it, looks codes up, shows the lines, brings
+ * reports and asks for them. include/dronesickle.h says what each call takes and gives.
  *
  *     rt staticlib dronesickle
  *     cc -std=c99 -Iinclude examples/calls.c target/staticlib/libdronesickle.a -o calls && ./calls
@@ -45,14 +45,16 @@ static void choose_weights(void)
     }
 }
 
-/* Builds under other weights as long as the list is cyclic under them. */
-static struct ds_answer build(void)
+/* Builds under other weights as long as the list is cyclic under them. The first weights serve: MILL, WEIR-2, LOCK and
+ * FERRY wait at the start, and BRIDGE joins as WEIR-2, the second of them, is taken off. ds_build is the same call
+ * without most_waiting. */
+static struct ds_counted build(void)
 {
     size_t run_length = put_codes();
-    struct ds_answer answer = {DS_CYCLIC, 0};
+    struct ds_counted answer = {DS_CYCLIC, 0, 0};
     for (int tries = 0; answer.number == DS_CYCLIC && tries < MOST_TRIES; tries++) {
         choose_weights();
-        answer = ds_build(run, run_length, ends, N, R, V, weights, WEIGHTS, buffer, sizeof buffer);
+        answer = ds_build_counted(run, run_length, ends, N, R, V, weights, WEIGHTS, buffer, sizeof buffer);
     }
     return answer;
 }
@@ -132,11 +134,12 @@ static void show_reports(size_t length)
 
 int main(void)
 {
-    struct ds_answer built = build();
+    struct ds_counted built = build();
     if (built.number != DS_SUCCESS) {
         printf("the build is refused: %u, place %zu\n", built.number, built.place);
         return 1;
     }
+    printf("built, with at most %zu codes waiting at once\n", built.most_waiting);
     size_t length = ds_length(N, R, V);
     struct ds_opened opened = ds_open(buffer, length);
     printf("%zu bytes, opened: %zu codes, r = %zu, v = %zu\n", length, opened.n, opened.r, opened.v);

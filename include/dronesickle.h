@@ -44,6 +44,15 @@
  *     r = 2, r * v about 4 * n          185       169       174         171
  *     r = 2, r * v about 2 * n          112        91        62          56
  *
+ * THE WAITING QUEUE
+ *
+ * A build takes the codes off their vertices one by one; this is the peeling. A code may go once it is the only one
+ * left on at least one of its vertices. At the start all that may go wait in a queue, in list order. A peeling step
+ * takes off the code at the front; then its followers, those that may go because of it and do not wait yet, join
+ * the back, in the order of the parts in which they met it. No code waits twice in one build, so a queue of 1,024
+ * places is enough; it is in the library's own memory, on the stack. ds_build_counted gives the most codes
+ * waiting at once.
+ *
  * THE FILE
  *
  * A built file is the first ds_length(n, r, v) bytes of the buffer that was lent for it. Store and hand on
@@ -122,11 +131,12 @@
  * - Each pointer is valid for the length that goes with it. It is never NULL, also where the length is 0:
  *   then it points to any object of its type, or one past it.
  * - ends and weights are aligned as uint16_t is.
- * - In ds_build, buffer does not overlap run, ends or weights. In ds_report, levels and times overlap neither
- *   each other nor the file or the code. All other slices may overlap: a code may lie in the file, as ds_show
- *   gives it, and all that is lent to ds_ask may overlap.
- * - There is stack. ds_build needs some 39 KB of it, whatever the list is: 39,040 bytes for its arrays, a
- *   little for the rest, and what memset and memcpy take. Leave it 48 KB. The others need less than 1 KB.
+ * - In ds_build and ds_build_counted, buffer does not overlap run, ends or weights. In ds_report, levels and times
+ *   overlap neither each other nor the file or the code. All other slices may overlap: a code may lie in the
+ *   file, as ds_show gives it, and all that is lent to ds_ask may overlap.
+ * - There is stack. ds_build and ds_build_counted need some 39 KB of it, whatever the list is: 39,040 bytes for
+ *   their arrays, a little for the rest, and what memset and memcpy take. Leave them 48 KB. The others need less
+ *   than 1 KB.
  * And this one, which is not undefined but takes away what the sign promises: between the calls nobody else writes
  * to the lists. The calls take any bytes in them, and answer from what they find.
  *
@@ -203,9 +213,9 @@ extern "C" {
 /* The level of each place in a cleared list. Every level outside the range means never heard; clear with this one. */
 #define DS_NEVER_HEARD 30000
 
-/* The numbers of the refusals. ds_build gives 1 to 8, ds_open 9 to 15, ds_lookup 9, 10, 11, 13 and 16, ds_report
- * ds_lookup's and 17, 18 and 23, ds_ask ds_lookup's and 19, 22 and 23. No call gives 20 or 21. The place is 0 where
- * none is named here. */
+/* The numbers of the refusals. ds_build and ds_build_counted give 1 to 8, ds_open 9 to 15, ds_lookup 9, 10, 11, 13
+ * and 16, ds_report ds_lookup's and 17, 18 and 23, ds_ask ds_lookup's and 19, 22 and 23. No call gives 20 or 21. The
+ * place is 0 where none is named here. */
 enum ds_refusal {
     /* Not refused. Place: 0. */
     DS_SUCCESS = 0,
@@ -307,6 +317,13 @@ struct ds_answer {
     size_t place;    /* of the refusal, else 0 */
 };
 
+/* The answer of a counted build. */
+struct ds_counted {
+    uint32_t number;     /* DS_SUCCESS, or the refusal, 1 to 8 */
+    size_t place;        /* of the refusal, else 0 */
+    size_t most_waiting; /* the most codes waiting at once, at most n; 0 on refusal, and for n = 0: look at number */
+};
+
 /* The answer of an opening. */
 struct ds_opened {
     uint32_t number; /* DS_SUCCESS, or the refusal, 9 to 15 */
@@ -388,6 +405,24 @@ struct ds_answer ds_build(const uint8_t *run, size_t run_len,
                           size_t r, size_t v,
                           const uint16_t *weights, size_t weights_len,
                           uint8_t *buffer, size_t buffer_len);
+
+/* Builds the directory of a code list, and gives the most codes waiting at once.
+ *
+ * Takes what ds_build takes, and all that is said there holds of this call too. ds_build is the same call without
+ * the field most_waiting: number, place and every byte of the buffer are the same.
+ *
+ * On success most_waiting is the most codes that waited at once in the peeling (see above). The codes in the waiting
+ * queue are counted after its first filling and after each whole peeling step, when the front code is taken off
+ * and its followers have joined; the largest of these numbers is given. It is at most n, and 0 for n = 0. It
+ * follows from the list, in its order, r, v and the weights, and from nothing else.
+ *
+ * On refusal most_waiting is 0.
+ */
+struct ds_counted ds_build_counted(const uint8_t *run, size_t run_len,
+                                   const uint16_t *ends, size_t ends_len,
+                                   size_t r, size_t v,
+                                   const uint16_t *weights, size_t weights_len,
+                                   uint8_t *buffer, size_t buffer_len);
 
 /* Looks at every byte of a file, whoever wrote it.
  *
