@@ -34,6 +34,14 @@ occurrences-getD [] i h = absurd (omega arith)
 occurrences-getD (x ∷ s) zero h = omega (arith, bit-self x)
 occurrences-getD (x ∷ s) (suc i) h = omega (arith, occurrences-getD s i (omega arith))
 
+-- where no number stands twice, different places have different numbers
+pub occurrences-apart : (s : List ℕ) → ((x : ℕ) → occurrences x s ≤ 1) → (i k : ℕ) → i < k → k < length s → getD s i 0 ≢ getD s k 0
+unfolding occurrences
+occurrences-apart [] once i k l m e = absurd (omega arith)
+occurrences-apart (x ∷ s) once i zero l m e = absurd (omega arith)
+occurrences-apart (x ∷ s) once zero (suc k) l m e = let again : 1 ≤ occurrences x s = rw e (occurrences-getD s k (omega arith)) in absurd (omega (arith, once x, bit-self x))
+occurrences-apart (x ∷ s) once (suc i) (suc k) l m e = occurrences-apart s (λ y. omega (arith, once y)) i k (omega arith) (omega arith) e
+
 -- the occurrences of the numbers below k make up the length, where no other number occurs
 pub occurrences-length : (k : ℕ) (s : List ℕ) → ((x : ℕ) → 1 ≤ occurrences x s → x < k) → sum k (λ x. occurrences x s) ≡ length s
 unfolding occurrences

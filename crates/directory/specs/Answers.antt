@@ -13,10 +13,10 @@ use Rattle.directory.specs.declared.RefusalGroup.the-variants as group
 use Rattle.directory.specs.declared.PlaceMeaning.{PlaceMeaning}
 use Rattle.directory.specs.declared.PlaceMeaning.the-variants as meaning
 
--- number and place: success is 0, and so is its place
-abbrev pub builtNumbers : Built → ℕ × ℕ
-builtNumbers built.Done = (0, 0)
-builtNumbers (built.Refused number place) = (number, place)
+-- number, place and the most codes that waited at once: success is 0, and so is its place; the last is 0 on refusal
+abbrev pub builtNumbers : Built → ℕ × ℕ × ℕ
+builtNumbers (built.Done most) = (0, 0, most)
+builtNumbers (built.Refused number place) = (number, place, 0)
 
 -- number, place, n, r and v: the last three are 0 on refusal
 abbrev pub openingNumbers : Opening → ℕ × ℕ × ℕ × ℕ × ℕ

@@ -1,4 +1,5 @@
 -- Building: the graph of a code list, the file, the refusals 1 to 8 in their order, the answer and the buffer afterwards. Assumes nothing.
+use mathlib.Core.Path.{_≡_}
 use mathlib.Core.Bool.{Bool, not, _||_}
 use mathlib.Core.List.{List, [], _∷_, _++_}
 use Prim.Native.Nat.{ℕ, _*_}
@@ -7,6 +8,7 @@ use lib.ListN.{length, getD, drop}
 use Rattle.counting.specs.Below.{any, lowest}
 use Rattle.graph.specs.Graph.{Graph}
 use Rattle.graph.specs.Peeling.{numberLeft}
+use Rattle.graph.specs.Waiting.{mostWaiting}
 use Rattle.graph.specs.Group.{Group}
 use Rattle.graph.specs.Assignment.{values, line, edgeOfLine}
 use Rattle.directory.specs.declared.Built.{Built}
@@ -28,6 +30,10 @@ pub record Lent : Type 0 where
 
 abbrev pub lent : List ℕ → List ℕ → ℕ → ℕ → List ℕ → List ℕ → Lent
 lent run ends r v weights buffer = record { run = run; ends = ends; r = r; v = v; weights = weights; buffer = buffer }
+
+-- an answer of success, whatever number it gives
+abbrev pub Succeeds : Built → Type 0
+Succeeds b = (most : ℕ) × (b ≡ Done most)
 
 module _ (K : Kind) (I : Lent) where
   open Kind K using (positions)
@@ -96,8 +102,9 @@ module _ (K : Kind) (I : Lent) where
   unfoldable pub buildRefusals : List Refusal
   buildRefusals = lentRefusals ++ graphRefusals
 
+  -- success gives the most codes that wait at once
   unfoldable pub build : Built
-  build = first Done Refused buildRefusals
+  build = first (Done (mostWaiting graph)) Refused buildRefusals
 
   -- the buffer afterwards: the file at its start and the bytes after it unchanged; on refusal no byte changes
   unfoldable pub bufferAfter : List ℕ

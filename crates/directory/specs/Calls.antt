@@ -2,6 +2,7 @@
 use mathlib.Core.Bool.{cond}
 use mathlib.Core.List.{List}
 use Prim.Native.Nat.{ℕ}
+use Rattle.graph.specs.Waiting.{mostWaiting}
 use Rattle.directory.specs.declared.Built.{Built}
 use Rattle.directory.specs.declared.Opening.{Opening}
 use Rattle.directory.specs.declared.Found.{Found}
@@ -43,9 +44,9 @@ lookupOf f t = lookingUp.lookup (kindOf f) f t
 
 -- ---- the same in the paper's numbers
 
--- number and place
-unfoldable pub buildNumbersOf : building.Lent → ℕ × ℕ
-buildNumbersOf I = first (0, 0) (λ number place. (number, place)) (building.buildRefusals HD I)
+-- number, place and the most codes that waited at once
+unfoldable pub buildNumbersOf : building.Lent → ℕ × ℕ × ℕ
+buildNumbersOf I = first (0, 0, mostWaiting (building.graph HD I)) (λ number place. (number, place, 0)) (building.buildRefusals HD I)
 
 -- by a table: number, place, n, r and v; success is 0, and so is its place; a refusal leaves n, r and v 0
 unfoldable pub openNumbersBy : List Refusal → Header → ℕ × ℕ × ℕ × ℕ × ℕ

@@ -6,7 +6,7 @@ use Prim.Native.Nat.{ℕ, _+_}
 use lib.ListN.{length, replicate}
 use Rattle.counting.specs.Lists.{every}
 use Rattle.directory.specs.Building.{Lent}
-use Rattle.directory.specs.Sayings.{Saying, refuses, builds, names, peels, holdsValues, packs, ranks, lines, unknown, lands, meets, passes, shows, prints, written, isTrue}
+use Rattle.directory.specs.Sayings.{Saying, refuses, builds, waits, names, peels, holdsValues, packs, ranks, lines, unknown, lands, meets, passes, shows, prints, written, isTrue}
 use Rattle.directory.specs.Computing.{computing}
 
 pub record Case : Type 0 where
@@ -94,6 +94,7 @@ cases =
     ∷ lines BB 2
     ∷ lines BC 3
     ∷ builds 285
+    ∷ waits 3
     -- 0 4441, 1 4241, 2 4242, 3 4243
     ∷ prints ((0x30 ∷ 0x20 ∷ 0x34 ∷ 0x34 ∷ 0x34 ∷ 0x31 ∷ 0x0A ∷ []) ∷ (0x31 ∷ 0x20 ∷ 0x34 ∷ 0x32 ∷ 0x34 ∷ 0x31 ∷ 0x0A ∷ []) ∷ (0x32 ∷ 0x20 ∷ 0x34 ∷ 0x32 ∷ 0x34 ∷ 0x32 ∷ 0x0A ∷ []) ∷ (0x33 ∷ 0x20 ∷ 0x34 ∷ 0x32 ∷ 0x34 ∷ 0x33 ∷ 0x0A ∷ []) ∷ [])
     ∷ [])
@@ -112,7 +113,7 @@ cases =
     -- 8
     ∷ usual (BA ∷ BB ∷ BA ∷ []) (refuses 7 2 ∷ [])
     -- 9
-    ∷ usual [] (lands AA 1 ∷ unknown AA ∷ builds 145 ∷ prints [] ∷ [])
+    ∷ usual [] (lands AA 1 ∷ unknown AA ∷ builds 145 ∷ waits 0 ∷ prints [] ∷ [])
     -- 10
     ∷ three (BA ∷ []) (holdsValues (0 ∷ 3 ∷ 3 ∷ []) ∷ packs (0x3C ∷ []) ∷ lines BA 0 ∷ builds 243 ∷ [])
     ∷ three (BA ∷ BB ∷ []) (refuses 8 2 ∷ [])

@@ -12,11 +12,11 @@ use Rattle.counting.specs.TestLaws.{eq?}
 use Rattle.counting.specs.Lists.{every}
 use Rattle.graph.specs.Peeling.{numberLeft}
 use Rattle.graph.specs.GroupLaws.{refused-exactly, largest-bound, largest-attained}
-use Rattle.directory.specs.declared.Built.the-variants.{Done, Refused}
+use Rattle.directory.specs.declared.Built.the-variants.{Refused}
 use Rattle.directory.specs.Kind.{Kind}
 use Rattle.directory.specs.RefusalLaws.{none-left, none-right, none-both}
 use Rattle.directory.specs.RowLaws.{another, given-row}
-use Rattle.directory.specs.Building.{Lent, graph, GroupOfCodes, lentRefusals, graphRefusals, buildRefusals, build}
+use Rattle.directory.specs.Building.{Lent, Succeeds, graph, GroupOfCodes, lentRefusals, graphRefusals, buildRefusals, build}
 use Rattle.directory.specs.Lending.{WithinLimits, Different}
 use Rattle.directory.specs.Conditions.{LargestGroup}
 use Rattle.directory.specs.LendingLaws.{limits, limits-back, different, different-back}
@@ -56,7 +56,7 @@ module _ (K : Kind) (I : Lent) (w : WithinLimits K I) (d : Different K I) where
     λ g. (numberLeft (graph K I), refused-8 K I _ .1 (w, d, record { attained = largest-attained (graph K I) (refused-exactly (graph K I) .1 g); most = largest-bound (graph K I) })),
   )
 
-  pub done-exactly : (¬ ((S : ℕ → Bool) × GroupOfCodes K I S)) ↔ (build K I ≡ Done)
+  pub done-exactly : (¬ ((S : ℕ → Bool) × GroupOfCodes K I S)) ↔ Succeeds (build K I)
   done-exactly = (λ none. done-back K I w d (zero none), λ e g. omega (arith, done-nothing K I e, refused-exactly (graph K I) .1 g))
     where
       zero : (¬ ((S : ℕ → Bool) × GroupOfCodes K I S)) → numberLeft (graph K I) ≡ 0

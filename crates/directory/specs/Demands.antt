@@ -19,7 +19,7 @@ use Rattle.directory.specs.Sizes.{headed}
 use Rattle.directory.specs.Kind.{HD}
 use Rattle.directory.specs.Refusals.{Refusal, NoneApplies, Given}
 use Rattle.directory.specs.File.{storedCode}
-use Rattle.directory.specs.Building.{Lent, codeOf, lineOf, fileOf, GroupOfCodes, buildRefusals}
+use Rattle.directory.specs.Building.{Lent, Succeeds, codeOf, lineOf, fileOf, GroupOfCodes, buildRefusals}
 use Rattle.directory.specs.Lending.{WithinLimits, Different}
 use Rattle.directory.specs.Conditions.{LargestGroup}
 use Rattle.directory.specs.Whole.{LeadsTo}
@@ -54,7 +54,7 @@ module _ (I : Lent) where
   building-is-refused-by-the-first-that-applies = build-refused HD I
 
   -- it succeeds exactly if none applies
-  pub building-succeeds-exactly-if-none-applies : (buildOf I ≡ built.Done) ↔ NoneApplies (buildTable I)
+  pub building-succeeds-exactly-if-none-applies : Succeeds (buildOf I) ↔ NoneApplies (buildTable I)
   unfolding buildOf
   building-succeeds-exactly-if-none-applies = build-done HD I
 
@@ -71,19 +71,19 @@ module _ (I : Lent) where
   the-buffer-keeps-its-length = written-laws.after-length I
 
   -- after a success the file stands at its start, every byte of it, and the bytes after it are unchanged
-  pub the-file-stands-at-the-start-and-the-rest-is-unchanged : buildOf I ≡ built.Done → (written I ≡ fileOf HD I) × (length (written I) ≡ lengthOf (length ends) r v) × (bufferAfterOf I ≡ written I ++ drop (lengthOf (length ends) r v) buffer)
+  pub the-file-stands-at-the-start-and-the-rest-is-unchanged : Succeeds (buildOf I) → (written I ≡ fileOf HD I) × (length (written I) ≡ lengthOf (length ends) r v) × (bufferAfterOf I ≡ written I ++ drop (lengthOf (length ends) r v) buffer)
   the-file-stands-at-the-start-and-the-rest-is-unchanged done = (written-laws.written-file I done, written-laws.written-length I done, written-laws.written-then-rest I done)
 
   -- ---- demand 2: what was written opens, with the n, r and v that were lent
-  pub what-was-written-opens : buildOf I ≡ built.Done → openOf (written I) ≡ opening.Opened (length ends) r v
+  pub what-was-written-opens : Succeeds (buildOf I) → openOf (written I) ≡ opening.Opened (length ends) r v
   what-was-written-opens = written-laws.written-opens I
 
   -- each listed code is found there at its line, the one that the published method gives
-  pub each-code-is-found-at-its-line : buildOf I ≡ built.Done → (k : ℕ) → k < length ends → lookupOf (written I) (codeOf HD I k) ≡ found.At (lineOf HD I k)
+  pub each-code-is-found-at-its-line : Succeeds (buildOf I) → (k : ℕ) → k < length ends → lookupOf (written I) (codeOf HD I k) ≡ found.At (lineOf HD I k)
   each-code-is-found-at-its-line = written-laws.written-found I
 
   -- and its line shows it
-  pub each-line-shows-its-code : buildOf I ≡ built.Done → (k : ℕ) → k < length ends → showOf (written I) (lineOf HD I k) ≡ codeOf HD I k
+  pub each-line-shows-its-code : Succeeds (buildOf I) → (k : ℕ) → k < length ends → showOf (written I) (lineOf HD I k) ≡ codeOf HD I k
   each-line-shows-its-code = written-laws.written-shows I
 
   -- ---- demand 3: of different codes, all within the limits and with a buffer large enough, the build is refused as cyclic exactly if a group exists
@@ -92,7 +92,7 @@ module _ (I : Lent) where
   refused-as-cyclic-exactly-if-a-group-exists = cyclic-exactly HD I
 
   -- otherwise, and only then, it succeeds
-  pub otherwise-it-is-built : WithinLimits HD I → Different HD I → (¬ ((S : ℕ → Bool) × GroupOfCodes HD I S)) ↔ (buildOf I ≡ built.Done)
+  pub otherwise-it-is-built : WithinLimits HD I → Different HD I → (¬ ((S : ℕ → Bool) × GroupOfCodes HD I S)) ↔ Succeeds (buildOf I)
   unfolding buildOf
   otherwise-it-is-built = done-exactly HD I
 
@@ -102,19 +102,19 @@ module _ (I : Lent) where
   the-place-is-the-size-of-the-largest-group = refused-8 HD I
 
   -- after a success each line is below n
-  pub the-lines-are-below-n : buildOf I ≡ built.Done → (k : ℕ) → k < length ends → lineOf HD I k < length ends
+  pub the-lines-are-below-n : Succeeds (buildOf I) → (k : ℕ) → k < length ends → lineOf HD I k < length ends
   the-lines-are-below-n = written-laws.written-below I
 
   -- different codes have different lines
-  pub different-codes-have-different-lines : buildOf I ≡ built.Done → (i k : ℕ) → i < length ends → k < length ends → lineOf HD I i ≡ lineOf HD I k → i ≡ k
+  pub different-codes-have-different-lines : Succeeds (buildOf I) → (i k : ℕ) → i < length ends → k < length ends → lineOf HD I i ≡ lineOf HD I k → i ≡ k
   different-codes-have-different-lines = written-laws.written-own I
 
   -- every line below n is that of a listed code, and what looking this code up gives
-  pub every-line-is-some-codes-answer : buildOf I ≡ built.Done → (l : ℕ) → l < length ends → (k : ℕ) × (k < length ends) × (lineOf HD I k ≡ l) × (lookupOf (written I) (codeOf HD I k) ≡ found.At l)
+  pub every-line-is-some-codes-answer : Succeeds (buildOf I) → (l : ℕ) → l < length ends → (k : ℕ) × (k < length ends) × (lineOf HD I k ≡ l) × (lookupOf (written I) (codeOf HD I k) ≡ found.At l)
   every-line-is-some-codes-answer = written-laws.written-onto I
 
   -- a code that is not listed gets no line
-  pub any-other-code-gets-no-line : buildOf I ≡ built.Done → (t : List ℕ) → ((k : ℕ) → k < length ends → codeOf HD I k ≢ t) → (lookupOf (written I) t ≡ found.Unknown) ⊎ (lookupOf (written I) t ≡ found.Refused 16 0)
+  pub any-other-code-gets-no-line : Succeeds (buildOf I) → (t : List ℕ) → ((k : ℕ) → k < length ends → codeOf HD I k ≢ t) → (lookupOf (written I) t ≡ found.Unknown) ⊎ (lookupOf (written I) t ≡ found.Refused 16 0)
   any-other-code-gets-no-line = written-laws.written-stranger I
 
 -- (demand 2) any bytes, from us or a stranger, open only if each stored code leads to its own line

@@ -1,22 +1,31 @@
--- What is proved of every build beside the demands, for readers: its numbers, and what the refusals 1 to 7 say as facts. Assumes nothing.
+-- What is proved of every build beside the demands, for readers: its numbers, what the refusals 1 to 7 say as facts, and the waiting queue. Assumes nothing.
 use mathlib.Core.Path.{_≡_}
-use mathlib.Core.Logic.{_↔_}
+use mathlib.Core.Logic.{_≢_, _↔_}
 use mathlib.Core.Bool.{false}
-use Prim.Native.Nat.{ℕ, _≤_}
-use lib.ListN.{length}
+use mathlib.Core.List.{List}
+use Prim.Native.Nat.{ℕ, _≤_, _<_}
+use native.Mathlib.Omega.{arith}
+use lib.ListN.{length, getD}
 use Rattle.counting.specs.Below.{any}
+use Rattle.counting.specs.Lists.{occurrences}
+use Rattle.graph.specs.Run.{Reached, everWaiting}
+use Rattle.graph.specs.Waiting.{mostWaiting, SoManyWait}
+use Rattle.graph.specs.PeelingLaws.{ever-waiting-once}
+use Rattle.graph.specs.WaitingLaws.{most-bound, most-attained, most-edges}
 use Rattle.directory.specs.declared.Built.the-variants.{Done, Refused}
 use Rattle.directory.specs.Codes.{repeated}
 use Rattle.directory.specs.Kind.{HD}
 use Rattle.directory.specs.Refusals.{NoneApplies}
-use Rattle.directory.specs.Building.{Lent, codeOf, lengthNeeded, lentRefusals}
+use Rattle.directory.specs.Building.{Lent, graph, codeOf, lengthNeeded, lentRefusals}
 use Rattle.directory.specs.Lending.{WithinLimits, Different}
 use Rattle.directory.specs.Conditions.{ArityRight, PartRight, WeightsRight, FewCodes, ListRight, RoomEnough, FirstWrong, FirstRepeated}
 use Rattle.directory.specs.Calls.{buildOf, buildNumbersOf}
 use Rattle.directory.specs.LendingLaws.{limits, limits-back, different, different-back}
 use Rattle.directory.specs.NumberLaws.{build-paper, numbers-of-done, numbers-of-refused}
+use Rattle.directory.specs.BuildingLaws.{build-number}
+use Rattle.directory.specs.WaitingLaws.{waiting-different, waiting-places}
 use Rattle.directory.specs.RefusedLaws.{refused-1, refused-2, refused-3, refused-4, refused-5, refused-6, refused-7}
-use Rattle.directory.specs.Demands.{building-refuses-with-1-to-8}
+use Rattle.directory.specs.Demands.{buildTable, building-refuses-with-1-to-8}
 
 module _ (I : Lent) where
   -- ---- the paper's numbers
@@ -24,12 +33,12 @@ module _ (I : Lent) where
   some-number : (k p : ℕ) → buildOf I ≡ Refused k p → 1 ≤ k
   some-number k p e = building-refuses-with-1-to-8 I k p e .0
 
-  -- number 0 is given exactly if the build succeeds, with the place 0
-  pub number-0-exactly-if-it-is-built : (buildNumbersOf I ≡ (0, 0)) ↔ (buildOf I ≡ Done)
+  -- number 0 is given exactly if the build succeeds, with the place 0 and the number that success gives
+  pub number-0-exactly-if-it-is-built : (most : ℕ) → (buildNumbersOf I ≡ (0, 0, most)) ↔ (buildOf I ≡ Done most)
   number-0-exactly-if-it-is-built = rw (← build-paper I) (numbers-of-done (buildOf I) some-number)
 
-  -- otherwise the number and the place are those of the refusal
-  pub otherwise-the-refusals-number-and-place : (k p : ℕ) → 1 ≤ k → (buildNumbersOf I ≡ (k, p)) ↔ (buildOf I ≡ Refused k p)
+  -- otherwise the number and the place are those of the refusal, with 0 beside them
+  pub otherwise-the-refusals-number-and-place : (k p : ℕ) → 1 ≤ k → (buildNumbersOf I ≡ (k, p, 0)) ↔ (buildOf I ≡ Refused k p)
   otherwise-the-refusals-number-and-place = rw (← build-paper I) (numbers-of-refused (buildOf I) some-number)
 
   -- ---- none of 1 to 7
@@ -79,3 +88,36 @@ module _ (I : Lent) where
     pub refused-with-7-exactly-at-the-lowest-repeated-code : (buildOf I ≡ Refused 7 p) ↔ (WithinLimits HD I × FirstRepeated HD I p)
     unfolding buildOf
     refused-with-7-exactly-at-the-lowest-repeated-code = refused-7 HD I p
+
+  -- ---- the waiting queue: document 02, request b
+
+  -- over the whole build no code of the list enters the queue twice
+  pub no-code-waits-twice : (k : ℕ) → occurrences k (everWaiting (graph HD I)) ≤ 1
+  no-code-waits-twice = ever-waiting-once (graph HD I)
+
+  -- so where the codes of the list are different, all that ever enter it are, in whatever order they do
+  pub all-that-ever-wait-are-different : Different HD I → (i k : ℕ) → i < k → k < length (everWaiting (graph HD I)) → codeOf HD I (getD (everWaiting (graph HD I)) i 0) ≢ codeOf HD I (getD (everWaiting (graph HD I)) k 0)
+  all-that-ever-wait-are-different = waiting-different HD I
+
+  -- within the limits a queue of 1,024 places is enough for all of them, no place being used twice
+  pub a-queue-of-1024-places-is-enough : WithinLimits HD I → length (everWaiting (graph HD I)) ≤ 1024
+  a-queue-of-1024-places-is-enough = waiting-places HD I
+
+  module _ (most : ℕ) where
+    -- success gives the most codes that wait at once, counted after the start and after each peeling step
+    pub success-gives-the-most-waiting : (buildOf I ≡ Done most) ↔ (NoneApplies (buildTable I) × (most ≡ mostWaiting (graph HD I)))
+    unfolding buildOf
+    success-gives-the-most-waiting = build-number HD I most
+
+    -- that is, after the start and after each step at most so many wait
+    pub at-no-moment-do-more-wait : buildOf I ≡ Done most → {removed waiting : List ℕ} → Reached (graph HD I) removed waiting → length waiting ≤ most
+    at-no-moment-do-more-wait done r = omega (arith, most-bound (graph HD I) r, success-gives-the-most-waiting .0 done .1)
+
+    -- and at one of these moments so many do
+    pub at-some-moment-so-many-wait : buildOf I ≡ Done most → SoManyWait (graph HD I) most
+    at-some-moment-so-many-wait done = rw (success-gives-the-most-waiting .0 done .1) (most-attained (graph HD I))
+
+    -- they are at most n
+    pub at-most-n-wait-at-once : buildOf I ≡ Done most → most ≤ length (I .ends)
+    unfolding graph
+    at-most-n-wait-at-once done = omega (arith, most-edges (graph HD I), success-gives-the-most-waiting .0 done .1)

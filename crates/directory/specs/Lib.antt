@@ -20,6 +20,7 @@ pub mod Conditions
 pub mod LendingLaws
 pub mod BuildingLaws
 pub mod DoneLaws
+pub mod WaitingLaws
 pub mod RefusedLaws
 pub mod CyclicLaws
 pub mod Opening

@@ -57,18 +57,18 @@ module _ (K : Kind) (h : Header) (f : List ℕ) {k p : ℕ} where
 -- ---- an answer whose refusals are never 0 is told by its numbers
 
 module _ (o : Built) (never : (k p : ℕ) → o ≡ built.Refused k p → 1 ≤ k) where
-  pub numbers-of-done : (builtNumbers o ≡ (0, 0)) ↔ (o ≡ built.Done)
-  numbers-of-done = (there o refl, λ e. ap builtNumbers e)
+  pub numbers-of-done : (most : ℕ) → (builtNumbers o ≡ (0, 0, most)) ↔ (o ≡ built.Done most)
+  numbers-of-done most = (there o refl, λ e. ap builtNumbers e)
     where
-      there : (a : Built) → o ≡ a → builtNumbers a ≡ (0, 0) → a ≡ built.Done
-      there built.Done q e = refl
+      there : (a : Built) → o ≡ a → builtNumbers a ≡ (0, 0, most) → a ≡ built.Done most
+      there (built.Done m) q e = ap (λ x. built.Done (x .2)) e
       there (built.Refused k p) q e = absurd (let z : k ≡ 0 = ap (λ x. x .0) e in omega (arith, never k p q))
 
-  pub numbers-of-refused : (k p : ℕ) → 1 ≤ k → (builtNumbers o ≡ (k, p)) ↔ (o ≡ built.Refused k p)
+  pub numbers-of-refused : (k p : ℕ) → 1 ≤ k → (builtNumbers o ≡ (k, p, 0)) ↔ (o ≡ built.Refused k p)
   numbers-of-refused k p m = (there o, λ e. ap builtNumbers e)
     where
-      there : (a : Built) → builtNumbers a ≡ (k, p) → a ≡ built.Refused k p
-      there built.Done e = absurd (let z : 0 ≡ k = ap (λ x. x .0) e in omega arith)
+      there : (a : Built) → builtNumbers a ≡ (k, p, 0) → a ≡ built.Refused k p
+      there (built.Done most) e = absurd (let z : 0 ≡ k = ap (λ x. x .0) e in omega arith)
       there (built.Refused i q) e =
           let a : i ≡ k = ap (λ x. x .0) e in
           let b : q ≡ p = ap (λ x. x .1) e in

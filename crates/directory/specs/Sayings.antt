@@ -20,6 +20,7 @@ use Rattle.directory.specs.Kind.{HD, vertex}
 use Rattle.directory.specs.Values.{valueIn, rankIn}
 use Rattle.directory.specs.File.{valuesAt, weightIn, tableIn, headerIn}
 use Rattle.directory.specs.Building.{Lent, header, codeOf, graph, lineOf, lengthNeeded, weight}
+use Rattle.directory.specs.Answers.{builtNumbers}
 use Rattle.directory.specs.Calls.{buildOf, bufferAfterOf, openOf, lookupOf, showOf, listingOf}
 
 pub data Saying : Type 0 where
@@ -27,6 +28,8 @@ pub data Saying : Type 0 where
   refuses : ℕ → ℕ → Saying
   -- building succeeds: a file of so many bytes stands at the start of the buffer, the bytes after it are unchanged, and it opens with the n, r and v that were lent
   builds : ℕ → Saying
+  -- and gives this as the most codes that wait at once
+  waits : ℕ → Saying
   -- a code and its vertices
   names : List ℕ → List ℕ → Saying
   -- the codes in the order of their removal
@@ -53,11 +56,11 @@ pub data Saying : Type 0 where
 -- ---- the tests
 
 isDone : Built → Bool
-isDone built.Done = true
+isDone (built.Done most) = true
 isDone (built.Refused number place) = false
 
 isRefused : ℕ → ℕ → Built → Bool
-isRefused number place built.Done = false
+isRefused number place (built.Done most) = false
 isRefused number place (built.Refused k p) = eqb k number && eqb p place
 
 isOpened : Header → Opening → Bool
@@ -112,6 +115,7 @@ isTrue I f (builds size) =
     && same (drop size (bufferAfterOf I)) (drop size (I .buffer))
     && eqb (length (bufferAfterOf I)) (length (I .buffer))
     && isOpened (header HD I) (openOf f)
+isTrue I f (waits most) = let b = builtNumbers (buildOf I) in same (b .0 ∷ b .1 ∷ b .2 ∷ []) (0 ∷ 0 ∷ most ∷ [])
 isTrue I f (names t vertices) = same (map (vertex HD (I .v) (weight HD I) t) (upTo (I .r))) vertices
 isTrue I f (peels codes) = sameCodes (map (codeOf HD I) (removalList (graph HD I))) codes
 isTrue I f (holdsValues list) =

@@ -12,7 +12,7 @@ use Rattle.directory.specs.Computing.{computing}
 
 pub data Trial : Type 0 where
   -- building gives this number and place, and leaves this buffer
-  answers : Lent → ℕ → ℕ → Trial
+  answers : Lent → ℕ → ℕ → ℕ → Trial
   leaves : Lent → List ℕ → Trial
   -- the length of the file for n, r and v
   measures : ℕ → ℕ → ℕ → ℕ → Trial
@@ -43,7 +43,7 @@ looked f t = let o = foundNumbers (lookupOf f t) in o .0 ∷ o .1 ∷ o .2 ∷ o
 
 unfoldable pub isSo : Trial → Bool
 unfolding isOpen isShut looked computing
-isSo (answers I number place) = let b = builtNumbers (buildOf I) in same (b .0 ∷ b .1 ∷ []) (number ∷ place ∷ [])
+isSo (answers I number place most) = let b = builtNumbers (buildOf I) in same (b .0 ∷ b .1 ∷ b .2 ∷ []) (number ∷ place ∷ most ∷ [])
 isSo (leaves I bytes) = same (bufferAfterOf I) bytes
 isSo (measures n r v size) = eqb (lengthOf n r v) size
 isSo (reads f n r v) = isOpen (headerOf f) n r v

@@ -12,7 +12,7 @@ use Rattle.directory.specs.Kind.{HD}
 use Rattle.directory.specs.File.{file}
 use Rattle.directory.specs.Building.{Lent}
 use Rattle.directory.specs.Answers.{groupOf, meaningOf}
-use Rattle.directory.specs.Sayings.{builds, names, peels, ranks, lines, unknown, lands}
+use Rattle.directory.specs.Sayings.{builds, waits, names, peels, ranks, lines, unknown, lands}
 use Rattle.directory.specs.Cases.{Case, holds, plainWeights, BA, BB, BC, DA, DB}
 use Rattle.directory.specs.Calls.{bufferAfterOf}
 use Rattle.directory.specs.Trials.{Trial, answers, leaves, measures, reads, stops, opens, fails, finds, misses, rejects, shows, prints, isSo}
@@ -107,11 +107,11 @@ ten = fileBy 5 [] []
 wide : List ℕ
 wide = fileBy 100 (replicate 10 2 ++ 0 ∷ replicate 79 2 ++ 0 ∷ []) (early ∷ late ∷ [])
 
--- the order j = 0, 1, .. of the vertices, and a stranger that lands on an unassigned vertex past the last line; a code that two vertices of one step would let join; rank entries of several blocks
+-- the order j = 0, 1, .. of the vertices, and a stranger that lands on an unassigned vertex past the last line; a code that two vertices of one step would let join, and that waits once; rank entries of several blocks
 pub worked : List Case
 worked =
-    record { r = 3; v = 5; weights = diagonal; codes = CFF ∷ BAE ∷ CCD ∷ BDF ∷ FDE ∷ []; sayings = peels (CCD ∷ FDE ∷ CFF ∷ BDF ∷ BAE ∷ []) ∷ lines CFF 2 ∷ lines BAE 1 ∷ lines CCD 3 ∷ lines BDF 4 ∷ lines FDE 0 ∷ lands FEF 10 ∷ unknown FEF ∷ builds 386 ∷ [] }
-    ∷ record { r = 3; v = 2; weights = diagonal; codes = BAA ∷ AAA ∷ BBB ∷ []; sayings = names BAA (0 ∷ 3 ∷ 5 ∷ []) ∷ peels (AAA ∷ BBB ∷ BAA ∷ []) ∷ lines BAA 0 ∷ lines AAA 1 ∷ lines BBB 2 ∷ builds 314 ∷ [] }
+    record { r = 3; v = 5; weights = diagonal; codes = CFF ∷ BAE ∷ CCD ∷ BDF ∷ FDE ∷ []; sayings = peels (CCD ∷ FDE ∷ CFF ∷ BDF ∷ BAE ∷ []) ∷ lines CFF 2 ∷ lines BAE 1 ∷ lines CCD 3 ∷ lines BDF 4 ∷ lines FDE 0 ∷ lands FEF 10 ∷ unknown FEF ∷ builds 386 ∷ waits 3 ∷ [] }
+    ∷ record { r = 3; v = 2; weights = diagonal; codes = BAA ∷ AAA ∷ BBB ∷ []; sayings = names BAA (0 ∷ 3 ∷ 5 ∷ []) ∷ peels (AAA ∷ BBB ∷ BAA ∷ []) ∷ lines BAA 0 ∷ lines AAA 1 ∷ lines BBB 2 ∷ builds 314 ∷ waits 2 ∷ [] }
     ∷ record { r = 2; v = 100; weights = plainWeights; codes = early ∷ late ∷ []; sayings = ranks (0 ∷ 1 ∷ 2 ∷ 2 ∷ []) ∷ lines early 0 ∷ lines late 1 ∷ builds 269 ∷ [] }
     ∷ record { r = 2; v = 100; weights = plainWeights; codes = before ∷ behind ∷ []; sayings = ranks (0 ∷ 1 ∷ 2 ∷ 2 ∷ []) ∷ lines before 0 ∷ lines behind 1 ∷ builds 269 ∷ [] }
     ∷ []
@@ -119,26 +119,26 @@ worked =
 pub trials : List Trial
 trials =
     -- 1, 2 and 3, the first that applies
-    answers (lentBy 1 0 0) 1 0
-    ∷ answers (lentBy 4 1 0) 1 0
-    ∷ answers (lentBy 2 0 0) 2 0
-    ∷ answers (lentBy 2 2049 0) 2 0
-    ∷ answers (lentBy 3 1366 0) 2 0
-    ∷ answers (lentBy 3 1 64) 3 0
-    ∷ answers (lentBy 2 1 96) 3 0
-    ∷ answers (lentOf [] (replicate 1025 0)) 4 0
+    answers (lentBy 1 0 0) 1 0 0
+    ∷ answers (lentBy 4 1 0) 1 0 0
+    ∷ answers (lentBy 2 0 0) 2 0 0
+    ∷ answers (lentBy 2 2049 0) 2 0 0
+    ∷ answers (lentBy 3 1366 0) 2 0 0
+    ∷ answers (lentBy 3 1 64) 3 0 0
+    ∷ answers (lentBy 2 1 96) 3 0 0
+    ∷ answers (lentOf [] (replicate 1025 0)) 4 0 0
     -- 5: an end falls, an end passes the run, a code is empty, a code has 33 bytes; the last end misses the run's length
-    ∷ answers (lentOf (replicate 4 65) (2 ∷ 1 ∷ 4 ∷ [])) 5 1
-    ∷ answers (lentOf (replicate 4 65) (2 ∷ 3 ∷ 5 ∷ [])) 5 2
-    ∷ answers (lentOf (replicate 4 65) (0 ∷ 4 ∷ [])) 5 0
-    ∷ answers (lentOf (replicate 4 65) (2 ∷ 2 ∷ 4 ∷ [])) 5 1
-    ∷ answers (lentOf (replicate 33 65) (33 ∷ [])) 5 0
-    ∷ answers (lentOf (replicate 32 65) (32 ∷ [])) 0 0
-    ∷ answers (lentOf (replicate 5 65) (2 ∷ 4 ∷ [])) 5 2
-    ∷ answers (lentOf (65 ∷ []) []) 5 0
+    ∷ answers (lentOf (replicate 4 65) (2 ∷ 1 ∷ 4 ∷ [])) 5 1 0
+    ∷ answers (lentOf (replicate 4 65) (2 ∷ 3 ∷ 5 ∷ [])) 5 2 0
+    ∷ answers (lentOf (replicate 4 65) (0 ∷ 4 ∷ [])) 5 0 0
+    ∷ answers (lentOf (replicate 4 65) (2 ∷ 2 ∷ 4 ∷ [])) 5 1 0
+    ∷ answers (lentOf (replicate 33 65) (33 ∷ [])) 5 0 0
+    ∷ answers (lentOf (replicate 32 65) (32 ∷ [])) 0 0 1
+    ∷ answers (lentOf (replicate 5 65) (2 ∷ 4 ∷ [])) 5 2 0
+    ∷ answers (lentOf (65 ∷ []) []) 5 0 0
     -- 6 before 7, and 7 before 8
-    ∷ answers (lentIn 284 (BA ++ BB ++ BA ++ BA) (2 ∷ 4 ∷ 6 ∷ 8 ∷ [])) 6 285
-    ∷ answers (lentIn 285 (BA ++ BB ++ BB ++ BA) (2 ∷ 4 ∷ 6 ∷ 8 ∷ [])) 7 2
+    ∷ answers (lentIn 284 (BA ++ BB ++ BA ++ BA) (2 ∷ 4 ∷ 6 ∷ 8 ∷ [])) 6 285 0
+    ∷ answers (lentIn 285 (BA ++ BB ++ BB ++ BA) (2 ∷ 4 ∷ 6 ∷ 8 ∷ [])) 7 2 0
     -- the length of a file; 0 where the sizes do not allow the numbers
     ∷ measures 4 2 4 285
     ∷ measures 1024 3 1365 37197

@@ -7,12 +7,11 @@ use native.Mathlib.Omega.{arith}
 use lib.ListN.{length, take, drop, length-append, length-drop}
 use lib.Seq.{take-at}
 use Rattle.graph.specs.Peeling.{numberLeft}
-use Rattle.directory.specs.declared.Built.the-variants.{Done}
 use Rattle.directory.specs.declared.Opening.the-variants.{Opened}
 use Rattle.directory.specs.declared.Found.the-variants.{At, Unknown, Refused}
 use Rattle.directory.specs.Kind.{HD}
 use Rattle.directory.specs.RefusalLaws.{given-or-none}
-use Rattle.directory.specs.Building.{Lent, header, codeOf, graph, lineOf, fileOf, lengthNeeded, buildRefusals}
+use Rattle.directory.specs.Building.{Lent, Succeeds, header, codeOf, graph, lineOf, fileOf, lengthNeeded, buildRefusals}
 use Rattle.directory.specs.Lending.{WithinLimits}
 use Rattle.directory.specs.WholeLaws.{true-sized}
 use Rattle.directory.specs.BuildingLaws.{build-done, build-refused, after-done, after-refused}
@@ -32,7 +31,7 @@ module _ (I : Lent) where
   abbrev written : List ℕ
   written = take size (bufferAfterOf I)
 
-  module _ (d : buildOf I ≡ Done) where
+  module _ (d : Succeeds (buildOf I)) where
     within : WithinLimits HD I
     unfolding buildOf
     within = done-limits HD I d
@@ -99,5 +98,5 @@ module _ (I : Lent) where
       (λ c. let d = build-done HD I .1 c in ap length (after-done HD I d) ∙ long d)
       (given-or-none (buildRefusals HD I))
     where
-      long : buildOf I ≡ Done → length (fileOf HD I ++ drop (lengthNeeded HD I) buffer) ≡ length buffer
+      long : Succeeds (buildOf I) → length (fileOf HD I ++ drop (lengthNeeded HD I) buffer) ≡ length buffer
       long d = rw (length-append, length-drop) (omega (arith, file-length HD I (within d) (nothing d), within d .room))

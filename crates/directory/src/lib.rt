@@ -1,8 +1,8 @@
 // What a directory is: the answers here, and their meaning in specs/. No code.
 
-// Building: success, or a refusal's number and place.
+// Building: success with the most codes that waited at once, or a refusal's number and place.
 pub enum Built {
-    Done,
+    Done(usize),
     Refused(u8, usize),
 }
 

@@ -169,6 +169,9 @@ module _ (G : Graph) where
   pub ever-waiting-once : (e : ℕ) → occurrences e (everWaiting G) ≤ 1
   ever-waiting-once e = rw ever-waiting-removed (removal-once e)
 
+  pub ever-waiting-edges : (e : ℕ) → 1 ≤ occurrences e (everWaiting G) → e < edges
+  ever-waiting-edges e m = removal-edges e (rw (← ever-waiting-removed) m)
+
   pub ever-waiting-most : length (everWaiting G) ≤ edges
   ever-waiting-most = rw ever-waiting-removed (omega (arith, reached-room removal-reached))
 
