@@ -9,25 +9,32 @@ use borrow.Author.Tests.{eq-eqb, ne-eqb, lt-ltb, le-ltb}
 use Rattle.counting.specs.Below.{lowest}
 use Rattle.counting.specs.TestLaws.{and-both}
 use Rattle.counting.specs.SearchLaws.{lowest-found, lowest-missed}
+use native.Mathlib.Omega.{arith}
 use Rattle.graph.specs.Peeling.{numberLeft}
+use Rattle.graph.specs.Waiting.{mostWaiting}
 use Rattle.directory.specs.declared.Built.{Built}
 use Rattle.directory.specs.declared.Built.the-variants.{Done, Refused}
 use Rattle.directory.specs.Sizes.{mostCodes, arityAllowed, partAllowed, codesAllowed, headerAllowed}
 use Rattle.directory.specs.Codes.{code, wrongCode, runMissed, repeated}
 use Rattle.directory.specs.Kind.{HD}
 use Rattle.directory.specs.Refusals.{first, NoneApplies}
-use Rattle.directory.specs.RefusalLaws.{given-more, first-past, first-none}
+use Rattle.directory.specs.RefusalLaws.{given-more, first-past, first-none, first-is, first-given}
 use Rattle.directory.specs.Building.{Lent, codeOf, graph, lengthNeeded, lentRefusals, graphRefusals, buildRefusals, build, bufferAfter}
 use Rattle.directory.specs.RepeatedLaws.{none-repeated}
 use Rattle.directory.specs.Lending.{WithinLimits}
 use Rattle.directory.specs.LendingLaws.{limits}
-use Rattle.directory.specs.BuildingLaws.{by-done, by-refused, build-refused, after-refused}
+use Rattle.directory.specs.BuildingLaws.{build-refused, after-refused}
 use Rattle.directory.specs.NumberLaws.{build-paper}
 use Rattle.directory.specs.Answers.{builtNumbers}
 use Rattle.directory.specs.Calls.{buildOf, bufferAfterOf, buildNumbersOf}
 use Rattle.records.specs.Standing.{Room}
 use Rattle.records.specs.FramedLaws.{allowed-room}
+use Rattle.builder.specs.declared.lending.Lending.{Lending}
+use Rattle.builder.specs.declared.lending.Lending.the-variants as lending
 use Rattle.builder.specs.Decisions.{ofLent, ofGraph, withFile, afterGraph}
+
+right-not-refused : (k p : ℕ) → _≢_ {A = Lending} lending.Right (lending.Refused k p)
+right-not-refused k p e = let z : _≡_ {A = ℕ} 0 1 = cc in omega arith
 
 module _ (I : Lent) where
   open Lent I using (run, ends, r, v, weights, buffer)
@@ -42,41 +49,41 @@ module _ (I : Lent) where
   unfolding headerAllowed
   sizes-room few arity part = allowed-room n r v (and-both (and-both few arity) part)
 
-  pub wrong-arity : arityAllowed r ≡ false → Refused 1 0 ≡ ofLent I
+  pub wrong-arity : arityAllowed r ≡ false → lending.Refused 1 0 ≡ ofLent I
   unfolding first lentRefusals
   wrong-arity t = rw t
 
   module _ (arity : arityAllowed r ≡ true) where
-    pub wrong-part : partAllowed r v ≡ false → Refused 2 0 ≡ ofLent I
+    pub wrong-part : partAllowed r v ≡ false → lending.Refused 2 0 ≡ ofLent I
     unfolding first lentRefusals
     wrong-part t = rw (arity, t)
 
     module _ (part : partAllowed r v ≡ true) where
-      pub wrong-weights : length weights ≢ HD .positions * r → Refused 3 0 ≡ ofLent I
+      pub wrong-weights : length weights ≢ HD .positions * r → lending.Refused 3 0 ≡ ofLent I
       unfolding first lentRefusals
       wrong-weights d = rw (arity, part, ne-eqb _ _ d)
 
       module _ (weighed : length weights ≡ HD .positions * r) where
-        pub too-many : codesAllowed n ≡ false → Refused 4 0 ≡ ofLent I
+        pub too-many : codesAllowed n ≡ false → lending.Refused 4 0 ≡ ofLent I
         unfolding first lentRefusals
         too-many t = rw (arity, part, eq-eqb _ _ weighed, t)
 
         module _ (few : codesAllowed n ≡ true) (k : ℕ) (is : k ≡ lowest n (wrongCode (HD .positions) run ends)) where
-          pub wrong-code : k < n → Refused 5 k ≡ ofLent I
+          pub wrong-code : k < n → lending.Refused 5 k ≡ ofLent I
           unfolding first lentRefusals
-          wrong-code l = rw (arity, part, eq-eqb _ _ weighed, few, lowest-found n _ k is l) (ap (Refused 5) is)
+          wrong-code l = rw (arity, part, eq-eqb _ _ weighed, few, lowest-found n _ k is l) (ap (lending.Refused 5) is)
 
           module _ (all : n ≤ k) where
-            pub run-missed : runMissed run ends ≡ true → Refused 5 k ≡ ofLent I
+            pub run-missed : runMissed run ends ≡ true → lending.Refused 5 k ≡ ofLent I
             unfolding first lentRefusals
-            run-missed t = rw (arity, part, eq-eqb _ _ weighed, few, lowest-missed n _ k is all, t) (ap (Refused 5) is)
+            run-missed t = rw (arity, part, eq-eqb _ _ weighed, few, lowest-missed n _ k is all, t) (ap (lending.Refused 5) is)
 
             module _ (met : runMissed run ends ≡ false) where
-              pub short-buffer : length buffer < lengthNeeded HD I → Refused 6 (lengthNeeded HD I) ≡ ofLent I
+              pub short-buffer : length buffer < lengthNeeded HD I → lending.Refused 6 (lengthNeeded HD I) ≡ ofLent I
               unfolding first lentRefusals
               short-buffer l = rw (arity, part, eq-eqb _ _ weighed, few, lowest-missed n _ k is all, met, lt-ltb _ _ l)
 
-              pub lent-right : lengthNeeded HD I ≤ length buffer → Done ≡ ofLent I
+              pub lent-right : lengthNeeded HD I ≤ length buffer → lending.Right ≡ ofLent I
               unfolding first lentRefusals
               lent-right l = rw (arity, part, eq-eqb _ _ weighed, few, lowest-missed n _ k is all, met, le-ltb _ _ l)
 
@@ -86,8 +93,8 @@ module _ (I : Lent) where
   unfolding graphRefusals
   none-applies z = (none-repeated HD I z, (ap not (eq-eqb _ 0 z), tt))
 
-  pub graph-done : numberLeft (graph HD I) ≡ 0 → (Done ≡ ofGraph I) × (withFile I ≡ afterGraph I)
-  graph-done z = let none = none-applies z in (sym (first-none Done Refused (graphRefusals HD I) none), sym (first-none (withFile I) (λ k p. buffer) (graphRefusals HD I) none))
+  pub graph-done : numberLeft (graph HD I) ≡ 0 → (most : ℕ) → most ≡ mostWaiting (graph HD I) → (Done most ≡ ofGraph I) × (withFile I ≡ afterGraph I)
+  graph-done z most is = let none = none-applies z in (ap Done is ∙ sym (first-none _ Refused (graphRefusals HD I) none), sym (first-none (withFile I) (λ k p. buffer) (graphRefusals HD I) none))
 
   module _ (k : ℕ) (is : k ≡ lowest n (repeated (code run ends))) where
     pub graph-repeated : k < n → (Refused 7 k ≡ ofGraph I) × (buffer ≡ afterGraph I)
@@ -100,22 +107,22 @@ module _ (I : Lent) where
 
   -- ---- both steps
 
-  pub lent-refused : {k p : ℕ} → Refused k p ≡ ofLent I → (Refused k p ≡ buildOf I) × (buffer ≡ bufferAfterOf I)
+  pub lent-refused : {k p : ℕ} → lending.Refused k p ≡ ofLent I → (Refused k p ≡ buildOf I) × (buffer ≡ bufferAfterOf I)
   unfolding buildRefusals buildOf bufferAfterOf
   lent-refused {k} {p} e =
-      let given = by-refused (lentRefusals HD I) k p .0 (sym e) in
+      let given = first-given lending.Right lending.Refused (λ i q k p e. (cc, cc)) right-not-refused (lentRefusals HD I) k p .0 (sym e) in
       let refused = build-refused HD I k p .1 (given-more (graphRefusals HD I) given) in
       (sym refused, sym (after-refused HD I refused))
 
-  lent-none : Done ≡ ofLent I → NoneApplies (lentRefusals HD I)
-  lent-none e = by-done (lentRefusals HD I) .0 (sym e)
+  lent-none : lending.Right ≡ ofLent I → NoneApplies (lentRefusals HD I)
+  lent-none e = first-is lending.Right lending.Refused lending.Right (λ k p i. right-not-refused k p (sym i)) (lentRefusals HD I) (sym e) .1
 
-  pub lent-limits : Done ≡ ofLent I → WithinLimits HD I
+  pub lent-limits : lending.Right ≡ ofLent I → WithinLimits HD I
   lent-limits e = limits HD I (lent-none e)
 
-  pub graph-decides : Done ≡ ofLent I → (ofGraph I ≡ buildOf I) × (afterGraph I ≡ bufferAfterOf I)
+  pub graph-decides : lending.Right ≡ ofLent I → (ofGraph I ≡ buildOf I) × (afterGraph I ≡ bufferAfterOf I)
   unfolding buildOf build bufferAfterOf bufferAfter buildRefusals
-  graph-decides e = (sym (first-past Done Refused (lentRefusals HD I) (graphRefusals HD I) (lent-none e)), sym (first-past (withFile I) (λ k p. buffer) (lentRefusals HD I) (graphRefusals HD I) (lent-none e)))
+  graph-decides e = (sym (first-past _ Refused (lentRefusals HD I) (graphRefusals HD I) (lent-none e)), sym (first-past (withFile I) (λ k p. buffer) (lentRefusals HD I) (graphRefusals HD I) (lent-none e)))
 
   -- the third promise follows from the first
   pub answered : {b : Built} {after : List ℕ} → (b ≡ buildOf I) × (after ≡ bufferAfterOf I) → (b ≡ buildOf I) × ((after ≡ bufferAfterOf I) × (builtNumbers b ≡ buildNumbersOf I))

@@ -6,7 +6,7 @@ use native.Mathlib.Nat.{mul-le-mul}
 use native.Mathlib.Omega.{arith}
 use lib.ListN.{length, getD}
 use Rattle.graph.specs.Agree.{Agree}
-use Rattle.graph.specs.AgreeLaws.{agree-number, agree-values, agree-edge, agree-rank, agree-proper}
+use Rattle.graph.specs.AgreeLaws.{agree-number, agree-most, agree-values, agree-edge, agree-rank, agree-proper}
 use Rattle.removal.specs.Arrays.{graphIn, Held}
 use Rattle.peeling.specs.Arranging.{Arranged}
 use Rattle.directory.specs.Sizes.{headed, mostCodes}
@@ -40,11 +40,12 @@ module _ (run ends : List ℕ) (r v : ℕ) (weights buffer edges : List ℕ) (na
         smallArity = omega (arith, s .three);
       }
 
-  pub arranged-list : {values rank keys : List ℕ} {left : ℕ} → Arranged (graphIn (length ends) r (r * v) edges) values rank keys left → Arranged (graphOf run ends r v weights buffer) values rank keys left
+  pub arranged-list : {values rank keys : List ℕ} {left most : ℕ} → Arranged (graphIn (length ends) r (r * v) edges) values rank keys left most → Arranged (graphOf run ends r v weights buffer) values rank keys left most
   unfolding graph
   arranged-list a =
       record {
         isLeft = a .isLeft ∙ sym (agree-number edges-agree);
+        isMost = a .isMost ∙ sym (agree-most edges-agree);
         lined =
             λ z.
             let l = a .lined z in

@@ -64,14 +64,14 @@ pub(crate) fn build_within(
     let mut values = [0u8; MOST_VERTICES];
     let mut rank = [0u16; MOST_BLOCKS];
     let mut keys = [0u16; MOST_CODES];
-    let left = arrange_codes(run, ends, r, v, weights, &mut values, &mut rank, &mut keys);
-    if left == 0 {
+    let counts = arrange_codes(run, ends, r, v, weights, &mut values, &mut rank, &mut keys);
+    if counts.left == 0 {
         write(run, ends, r, v, weights, &values, &rank, &keys, buffer);
-        return Built::Done;
+        return Built::Done(counts.most);
     }
     let k = lowest_repeated(run, ends);
     if k < ends.len() {
         return Built::Refused(REPEATED_CODE, k);
     }
-    Built::Refused(CYCLIC, left)
+    Built::Refused(CYCLIC, counts.left)
 }

@@ -1,5 +1,4 @@
 // What is lent: the refusals 1 to 6, in their order.
-use directory::Built;
 use directory::SHORT_BUFFER;
 use directory::TOO_MANY_CODES;
 use directory::WRONG_ARITY;
@@ -17,7 +16,13 @@ ghost use mathlib.Core.Path.{_≡_};
 ghost use Rattle.directory.specs.Building.{lent};
 ghost use Rattle.builder.specs.Decisions.{ofLent};
 
-// The first of the refusals 1 to 6 that applies, or Done where none does.
+// What is lent is right, or the number and place of a refusal.
+pub(crate) enum Lending {
+    Right,
+    Refused(u8, usize),
+}
+
+// The first of the refusals 1 to 6 that applies, or Right where none does.
 pub(crate) fn refused_lent(
     run: &[u8],
     ends: &[u16],
@@ -25,31 +30,31 @@ pub(crate) fn refused_lent(
     v: usize,
     weights: &[u16],
     buffer: &[u8],
-) -> Built
+) -> Lending
     ensures { λ b. ⌜ b ≡ ofLent (lent (now (run .entry)) (now (ends .entry)) r v (now (weights .entry)) (now (buffer .entry))) ⌝ }
 {
     if !arity_allowed(r) {
-        return Built::Refused(WRONG_ARITY, 0);
+        return Lending::Refused(WRONG_ARITY, 0);
     }
     if !part_allowed(r, v) {
-        return Built::Refused(WRONG_PART_SIZE, 0);
+        return Lending::Refused(WRONG_PART_SIZE, 0);
     }
     if weights.len() != POSITIONS * r {
-        return Built::Refused(WRONG_WEIGHTS, 0);
+        return Lending::Refused(WRONG_WEIGHTS, 0);
     }
     if !codes_allowed(ends.len()) {
-        return Built::Refused(TOO_MANY_CODES, 0);
+        return Lending::Refused(TOO_MANY_CODES, 0);
     }
     let k = lowest_wrong(run, ends);
     if k < ends.len() {
-        return Built::Refused(WRONG_LIST, k);
+        return Lending::Refused(WRONG_LIST, k);
     }
     if run_missed(run, ends) {
-        return Built::Refused(WRONG_LIST, k);
+        return Lending::Refused(WRONG_LIST, k);
     }
     let length = key_at(r, v, ends.len());
     if buffer.len() < length {
-        return Built::Refused(SHORT_BUFFER, length);
+        return Lending::Refused(SHORT_BUFFER, length);
     }
-    Built::Done
+    Lending::Right
 }

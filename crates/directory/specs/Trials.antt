@@ -11,7 +11,7 @@ use Rattle.directory.specs.Calls.{lengthOf, buildOf, bufferAfterOf, head
 use Rattle.directory.specs.Computing.{computing}
 
 pub data Trial : Type 0 where
-  -- building gives this number and place, and leaves this buffer
+  -- building gives this number, place and most codes waiting at once, and leaves this buffer
   answers : Lent → ℕ → ℕ → ℕ → Trial
   leaves : Lent → List ℕ → Trial
   -- the length of the file for n, r and v

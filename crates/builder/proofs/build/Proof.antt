@@ -1,6 +1,6 @@
 -- `builder::build` meets its contract. Assumes nothing.
 use mathlib.Core.Path.{_≡_, sym, _∙_}
-use Rattle.directory.specs.declared.Built.the-variants.{Done}
+use Rattle.builder.specs.declared.lending.Lending.the-variants.{Right}
 use Rattle.directory.specs.Building.{Lent, lent}
 use Rattle.builder.specs.Decisions.{ofLent}
 use Rattle.builder.specs.DecisionsLaws.{lent-refused, lent-limits, graph-decides, answered}
@@ -21,7 +21,7 @@ enum-told c = search needs
 abbrev lentAt : tie.After-refused-lent → Lent
 lentAt c = let a = c .before .before .before .before .before .before .args in lent (a .run .now) (a .ends .now) (a .r) (a .v) (a .weights .now) (a .buffer .now)
 
-right : (c : tie.After-enum-told) → Done ≡ ofLent (lentAt (c .before .before))
+right : (c : tie.After-enum-told) → Right ≡ ofLent (lentAt (c .before .before))
 right c = sym (c .enum-told .given .1) ∙ c .before .before .refused-lent .ensures
 
 build-within-requires : tie.Need-build-within-requires

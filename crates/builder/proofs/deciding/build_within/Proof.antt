@@ -28,7 +28,7 @@ start c = c .before .before .before .before .before .before .before .before
 abbrev lentAt : tie.After-arrange-codes → Lent
 lentAt c = let a = start c .args in lent (a .run .now) (a .ends .now) (a .r) (a .v) (a .weights .now) (a .buffer .now)
 
-left-is : (c : tie.After-arrange-codes) → c .arrange-codes .result ≡ numberLeft (graph HD (lentAt c))
+left-is : (c : tie.After-arrange-codes) → c .arrange-codes .result .left ≡ numberLeft (graph HD (lentAt c))
 left-is c = c .arrange-codes .ensures (start c .args .buffer .now) .isLeft
 
 slice-aggregate-write : tie.Need-slice-aggregate-write
@@ -43,10 +43,10 @@ slice-aggregate-write-3 c = search needs
 write-requires : tie.Need-write-requires
 write-requires c κs =
     let t = c .before .before .before .before in
-    let r = t .before .before .before .before in
+    let r = t .before .before .before .before .before in
     let p = start r .pre in
     let k = r .arrange-codes .kept in
-    let none : r .arrange-codes .result ≡ 0 = omega arith in
+    let none : r .arrange-codes .result .left ≡ 0 = t .if1 .taken in
     record {
       within = p;
       nothing = sym (left-is r) ∙ none;
@@ -63,9 +63,9 @@ returns : tie.Need-returns
 returns c =
     let w = c .before .before in
     let t = w .before .before .before .before .before in
-    let r = t .before .before .before .before in
-    let none : r .arrange-codes .result ≡ 0 = omega arith in
-    let d = graph-done (lentAt r) (sym (left-is r) ∙ none) in
+    let r = t .before .before .before .before .before in
+    let none : r .arrange-codes .result .left ≡ 0 = t .if1 .taken in
+    let d = graph-done (lentAt r) (sym (left-is r) ∙ none) _ (r .arrange-codes .ensures (start r .args .buffer .now) .isMost) in
     (d .0, w .write .ensures ∙ d .1)
 
 lowest-repeated-requires : tie.Need-lowest-repeated-requires
@@ -74,14 +74,14 @@ lowest-repeated-requires c κs = search needs
 returns-2 : tie.Need-returns-2
 returns-2 c =
     let k = c .before in
-    let r = k .before .before .before .before .before in
+    let r = k .before .before .before .before .before .before in
     graph-repeated (lentAt r) (k .lowest-repeated .result) (k .lowest-repeated .ensures) (c .if2 .taken)
 
 returns-3 : tie.Need-returns-3
 returns-3 c =
     let k = c .before in
-    let r = k .before .before .before .before .before in
-    graph-cyclic (lentAt r) (k .lowest-repeated .result) (k .lowest-repeated .ensures) (c .if2 .left) (r .arrange-codes .result) (left-is r) (k .before .if1 .left)
+    let r = k .before .before .before .before .before .before in
+    graph-cyclic (lentAt r) (k .lowest-repeated .result) (k .lowest-repeated .ensures) (c .if2 .left) (r .arrange-codes .result .left) (left-is r) (k .before .if1 .left)
 
 pub build-within-spec : {M : Type 1} → statement M
 build-within-spec =

@@ -6,7 +6,7 @@ use native.Mathlib.Omega.{arith}
 use borrow.Author.Needs.{needs}
 use borrow.Author.Tests.{not-true, not-false}
 use lib.ListN.{length}
-use Rattle.directory.specs.declared.Built.the-variants.{Refused}
+use Rattle.builder.specs.declared.lending.Lending.the-variants.{Refused}
 use Rattle.directory.specs.Sizes.{arityAllowed, partAllowed, codesAllowed}
 use Rattle.directory.specs.Codes.{runMissed}
 use Rattle.directory.specs.Kind.{HD}
