@@ -24,22 +24,27 @@ use Rattle.sign.specs.Keeping.{Lists}
 use Rattle.sign.specs.Calls.{reportOf, afterReport, askOf}
 use Rattle.sign.specs.Answers.{reportedNumbers, answerNumbers}
 use Rattle.dronesickle.specs.declared.DsAnswer.{DsAnswer}
+use Rattle.dronesickle.specs.declared.DsCounted.{DsCounted}
 use Rattle.dronesickle.specs.declared.DsOpened.{DsOpened}
 use Rattle.dronesickle.specs.declared.DsFound.{DsFound}
 use Rattle.dronesickle.specs.declared.DsPart.{DsPart}
 use Rattle.dronesickle.specs.declared.DsReported.{DsReported}
 use Rattle.dronesickle.specs.declared.DsAsked.{DsAsked}
-use Rattle.dronesickle.specs.Numbers.{answer, opened, found, part, reported, asked}
+use Rattle.dronesickle.specs.Numbers.{answer, counted, opened, found, part, reported, asked}
 
 -- ---- the fields tell the answer
 
-tells-built : (b : Built) → ((k p : ℕ) → b ≡ built.Refused k p → 1 ≤ k) → (answer (builtNumbers b) .number ≡ 0) ↔ (b ≡ built.Done)
-tells-built built.Done some = (λ e. refl, λ e. refl)
+tells-built : (b : Built) → ((k p : ℕ) → b ≡ built.Refused k p → 1 ≤ k) → let c = counted (builtNumbers b) in (c .number ≡ 0) ↔ (b ≡ built.Done (c .«most_waiting»))
+tells-built (built.Done most) some = (λ e. refl, λ e. refl)
 tells-built (built.Refused k p) some = (λ e. absurd (omega (arith, some k p refl)), λ e. cc)
 
--- the number of a build is 0 exactly if it succeeded
-pub number-is-0-exactly-if-it-is-built : (I : Lent) → (answer (buildNumbersOf I) .number ≡ 0) ↔ (buildOf I ≡ built.Done)
+-- the number of a build is 0 exactly if it succeeded, with the most codes that waited at once beside it
+pub number-is-0-exactly-if-it-is-built : (I : Lent) → let c = counted (buildNumbersOf I) in (c .number ≡ 0) ↔ (buildOf I ≡ built.Done (c .«most_waiting»))
 number-is-0-exactly-if-it-is-built I = rw (← the-numbers-of-building I) (tells-built (buildOf I) (λ k p e. building-refuses-with-1-to-8 I k p e .0))
+
+-- the two calls that build give the same number and place
+pub both-builds-answer-alike : (I : Lent) → (answer (buildNumbersOf I) .number ≡ counted (buildNumbersOf I) .number) × (answer (buildNumbersOf I) .place ≡ counted (buildNumbersOf I) .place)
+both-builds-answer-alike I = (refl, refl)
 
 tells-opened : (o : Opening) → ((k p : ℕ) → o ≡ opening.Refused k p → 1 ≤ k) → let c = opened (openingNumbers o) in (c .number ≡ 0) ↔ (o ≡ opening.Opened (c .n) (c .r) (c .v))
 tells-opened (opening.Opened n r v) some = (λ e. refl, λ e. refl)
@@ -94,6 +99,9 @@ kind-tells-what-is-not-shown (answers.Refused number place) = ((λ e. absurd (om
 
 pub building-is-decided : (I : Lent) {a b : DsAnswer} {x y : List ℕ} → (a ≡ answer (buildNumbersOf I)) × (x ≡ bufferAfterOf I) → (b ≡ answer (buildNumbersOf I)) × (y ≡ bufferAfterOf I) → (a ≡ b) × (x ≡ y)
 building-is-decided I a b = (a .0 ∙ sym (b .0), a .1 ∙ sym (b .1))
+
+pub counted-building-is-decided : (I : Lent) {a b : DsCounted} {x y : List ℕ} → (a ≡ counted (buildNumbersOf I)) × (x ≡ bufferAfterOf I) → (b ≡ counted (buildNumbersOf I)) × (y ≡ bufferAfterOf I) → (a ≡ b) × (x ≡ y)
+counted-building-is-decided I a b = (a .0 ∙ sym (b .0), a .1 ∙ sym (b .1))
 
 pub opening-is-decided : (f : List ℕ) {o p : DsOpened} → o ≡ opened (openNumbersOf f) → p ≡ opened (openNumbersOf f) → o ≡ p
 opening-is-decided f a b = a ∙ sym b

@@ -3,14 +3,19 @@ use Prim.Native.Nat.{ℕ}
 use lib.IntN.{ℤ}
 use Rattle.directory.specs.declared.Part.{Part}
 use Rattle.dronesickle.specs.declared.DsAnswer.{DsAnswer}
+use Rattle.dronesickle.specs.declared.DsCounted.{DsCounted}
 use Rattle.dronesickle.specs.declared.DsOpened.{DsOpened}
 use Rattle.dronesickle.specs.declared.DsFound.{DsFound}
 use Rattle.dronesickle.specs.declared.DsPart.{DsPart}
 use Rattle.dronesickle.specs.declared.DsReported.{DsReported}
 use Rattle.dronesickle.specs.declared.DsAsked.{DsAsked}
 
-abbrev pub answer : ℕ × ℕ → DsAnswer
-answer (number, place) = record { number = number; place = place }
+abbrev pub counted : ℕ × ℕ × ℕ → DsCounted
+counted (number, place, most) = record { number = number; place = place; «most_waiting» = most }
+
+-- without the count
+abbrev pub answer : ℕ × ℕ × ℕ → DsAnswer
+answer (number, place, most) = record { number = number; place = place }
 
 abbrev pub opened : ℕ × ℕ × ℕ × ℕ × ℕ → DsOpened
 opened (number, place, n, r, v) = record { number = number; place = place; n = n; r = r; v = v }

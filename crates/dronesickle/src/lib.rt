@@ -12,13 +12,21 @@ ghost use Rattle.sign.specs.Rules.{aReport, aQuestion};
 ghost use Rattle.sign.specs.Keeping.{lists};
 ghost use Rattle.sign.specs.Answers.{reportedNumbers, answerNumbers};
 ghost use Rattle.sign.specs.Calls.{reportOf, afterReport, askOf};
-ghost use Rattle.dronesickle.specs.Numbers.{answer, opened, found, part, reported, asked};
+ghost use Rattle.dronesickle.specs.Numbers.{answer, counted, opened, found, part, reported, asked};
 
 // A build's answer: success is 0, or a refusal's number, and its place.
 #[repr(C)]
 pub struct DsAnswer {
     pub number: u32,
     pub place: usize,
+}
+
+// A build's answer with the most codes that waited at once, which is 0 on refusal.
+#[repr(C)]
+pub struct DsCounted {
+    pub number: u32,
+    pub place: usize,
+    pub most_waiting: usize,
 }
 
 // An opening's answer: success is 0, or a refusal's number, and its place; the file's n, r and v, all 0 on refusal.
@@ -90,6 +98,33 @@ pub extern "C" fn ds_length(n: usize, r: usize, v: usize) -> usize
 
 // Builds the directory of a code list at the start of the buffer, or refuses and changes no byte.
 #[no_mangle]
+pub extern "C" fn ds_build_counted(
+    run: &[u8],
+    ends: &[u16],
+    r: usize,
+    v: usize,
+    weights: &[u16],
+    buffer: &mut [u8],
+) -> DsCounted
+    ensures given { λ a. ⌜ a ≡ counted (buildNumbersOf (lent (now (run .entry)) (now (ends .entry)) r v (now (weights .entry)) (now (buffer .entry)))) ⌝ }
+    ensures bytes { λ a. ⌜ now (buffer .exit) ≡ bufferAfterOf (lent (now (run .entry)) (now (ends .entry)) r v (now (weights .entry)) (now (buffer .entry))) ⌝ }
+{
+    match builder::build(run, ends, r, v, weights, buffer) {
+        Built::Done(most) => DsCounted {
+            number: 0,
+            place: 0,
+            most_waiting: most,
+        },
+        Built::Refused(number, place) => DsCounted {
+            number: number as u32,
+            place,
+            most_waiting: 0,
+        },
+    }
+}
+
+// The same without the count.
+#[no_mangle]
 pub extern "C" fn ds_build(
     run: &[u8],
     ends: &[u16],
@@ -101,15 +136,10 @@ pub extern "C" fn ds_build(
     ensures given { λ a. ⌜ a ≡ answer (buildNumbersOf (lent (now (run .entry)) (now (ends .entry)) r v (now (weights .entry)) (now (buffer .entry)))) ⌝ }
     ensures bytes { λ a. ⌜ now (buffer .exit) ≡ bufferAfterOf (lent (now (run .entry)) (now (ends .entry)) r v (now (weights .entry)) (now (buffer .entry))) ⌝ }
 {
-    match builder::build(run, ends, r, v, weights, buffer) {
-        Built::Done => DsAnswer {
-            number: 0,
-            place: 0,
-        },
-        Built::Refused(number, place) => DsAnswer {
-            number: number as u32,
-            place,
-        },
+    let counted = ds_build_counted(run, ends, r, v, weights, buffer);
+    DsAnswer {
+        number: counted.number,
+        place: counted.place,
     }
 }
 

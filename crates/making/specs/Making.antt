@@ -21,7 +21,7 @@ lentOf c w r v buffer = lent (runOf c) (endsOf c) r v (valuesOf w) buffer
 -- ---- first the codes are read, then the weights, and then it is built
 
 abbrev pub afterBuilding : ℕ → Built → Made
-afterBuilding n built.Done = Done n
+afterBuilding n (built.Done most) = Done n
 afterBuilding n (built.Refused number place) = Refused number place
 
 abbrev pub afterWeights : ℕ → Built → Weights → Made

@@ -39,7 +39,7 @@ fn answer(n: usize, built: Built) -> Made
     ensures { λ made. ⌜ made ≡ afterBuilding n built ⌝ }
 {
     match built {
-        Built::Done => Made::Done(n),
+        Built::Done(_) => Made::Done(n),
         Built::Refused(number, place) => Made::Refused(number, place),
     }
 }
