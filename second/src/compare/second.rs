@@ -26,7 +26,7 @@ impl Calls for Second {
         buffer: &mut [u8],
     ) -> DsAnswer {
         match build(list, r as u64, v as u64, weights, buffer) {
-            Ok(()) => DsAnswer::default(),
+            Ok(_) => DsAnswer::default(),
             Err(Refusal { number, place }) => DsAnswer {
                 number: u32::from(number),
                 place,
