@@ -29,8 +29,8 @@ fn waiting_at_the_start(vertices_of: &[Vec<usize>], removed: &[bool]) -> VecDequ
         .collect()
 }
 
-/// The codes left alone on a vertex of the code that was taken join the back of the queue, unless they are already
-/// waiting.
+/// The codes left alone on a vertex of the code that was taken join the back of the queue, unless they are
+/// already waiting.
 fn join(waiting: &mut VecDeque<usize>, taken: usize, vertices_of: &[Vec<usize>], removed: &[bool]) {
     for &vertex in &vertices_of[taken] {
         if let [one_left] = codes_left_on(vertex, vertices_of, removed)[..] {

@@ -1,6 +1,6 @@
-//! Document 02 b): no code waits twice in one build, the most codes waiting at once are at most n, and a queue of
-//! 1,024 places is enough. The expected values come from document 01's peeling word by word, and once more from counting
-//! the codes that are alone on a vertex, which needs no queue at all.
+//! Document 02 b): no code waits twice in one build, the most codes waiting at once are at most n, and a
+//! queue of 1,024 places is enough. The expected values come from document 01's peeling word by word, and
+//! once more from counting the codes that are alone on a vertex, which needs no queue at all.
 
 mod common;
 
@@ -80,23 +80,25 @@ fn small_graphs() {
     assert!(often, "{counts:?}");
 }
 
-/// The parts are too small for 1,024 codes, about large enough, and the largest. Where all are removed, each of the
-/// 1,024 has waited once.
+/// Arities and part sizes for 1,024 codes: too small, about large enough, and the largest.
+const SIZES: [(usize, usize); 5] = [(2, 700), (2, 2_048), (3, 380), (3, 460), (3, 1_365)];
+
+/// Where all 1,024 codes are removed, each has waited once, so that the places are just enough for all.
 #[test]
 fn the_most_codes() {
     let mut random = Random::new(SEED);
     let mut whole_lists = 0;
-    for (r, v) in [(2, 700), (2, 2_048), (3, 380), (3, 460), (3, 1_365)] {
+    for (r, v) in SIZES {
         let named = random_graph(MOST_CODES, r, v, &mut random);
         let words = format!("1,024 codes of seed {SEED}, r = {r}, v = {v}");
         let whole = check(&named, &words);
         whole_lists += usize::from(whole.joined.len() == MOST_CODES);
     }
-    assert!(whole_lists > 0 && whole_lists < 5, "{whole_lists}");
+    assert!((1..SIZES.len()).contains(&whole_lists), "{whole_lists}");
 }
 
-/// By hand: a code that is removed had a vertex to itself. At r = 2 it has one other, so that at most one code joins,
-/// and after a step no more wait than before it.
+/// By hand: a code that is removed had a vertex to itself. At r = 2 it has one other, so that at most one
+/// code joins, and after a step no more wait than before it.
 #[test]
 fn at_arity_2_the_most_wait_from_the_start() {
     let mut random = Random::new(SEED);
@@ -107,8 +109,8 @@ fn at_arity_2_the_most_wait_from_the_start() {
     }
 }
 
-/// By hand: the last two codes do not have the same vertices, or they would be left over, and each has as many as the
-/// other. So each has one to itself, and both wait.
+/// By hand: the last two codes do not have the same vertices, or they would be left over, and each has as
+/// many as the other. So each has one to itself, and both wait.
 #[test]
 fn where_two_codes_or_more_build_two_wait_at_least() {
     let mut random = Random::new(SEED);

@@ -5,7 +5,7 @@
 mod common;
 
 use common::{case_1_file, coloured, diagonal, directory, refusal, Input, GV, KY, KY_BYTES, RK};
-use second::graph::{peel, Peeled};
+use second::graph::peel;
 use second::table::{rank_entries, values};
 use second::vertices::vertices;
 use second::{list, lookup, open, show, Found, Header, Part};
@@ -281,14 +281,11 @@ fn vector_arity_3_with_five_codes() {
     let vertices_of = vertices_of(&codes, 3, 5);
     let by_hand = [[2, 5, 10], [1, 5, 14], [2, 7, 13], [1, 8, 10], [0, 8, 14]];
     assert_eq!(vertices_of, by_hand);
-    let Peeled {
-        removal_list,
-        most_waiting,
-    } = peel(&vertices_of);
-    assert_eq!(removal_list, [2, 4, 0, 3, 1]);
-    assert_eq!(most_waiting, 3);
+    let peeled = peel(&vertices_of);
+    assert_eq!(peeled.removal_list, [2, 4, 0, 3, 1]);
+    assert_eq!(peeled.most_waiting, 3);
     assert_eq!(
-        values(&vertices_of, &removal_list, 3, 15),
+        values(&vertices_of, &peeled.removal_list, 3, 15),
         [2, 0, 0, 3, 3, 3, 3, 1, 1, 3, 3, 3, 3, 3, 3]
     );
     let file = directory(&codes, 3, 5, &diagonal(3));
@@ -304,14 +301,11 @@ fn vector_a_code_that_would_join_twice() {
     let codes: [&[u8]; 3] = [b"BAA", b"AAA", b"BBB"];
     let vertices_of = vertices_of(&codes, 3, 2);
     assert_eq!(vertices_of, [[0, 3, 5], [1, 3, 5], [0, 2, 4]]);
-    let Peeled {
-        removal_list,
-        most_waiting,
-    } = peel(&vertices_of);
-    assert_eq!(removal_list, [1, 2, 0]);
-    assert_eq!(most_waiting, 2);
+    let peeled = peel(&vertices_of);
+    assert_eq!(peeled.removal_list, [1, 2, 0]);
+    assert_eq!(peeled.most_waiting, 2);
     assert_eq!(
-        values(&vertices_of, &removal_list, 3, 6),
+        values(&vertices_of, &peeled.removal_list, 3, 6),
         [0, 0, 1, 3, 3, 3]
     );
     let file = directory(&codes, 3, 2, &diagonal(3));

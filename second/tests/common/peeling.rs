@@ -1,5 +1,6 @@
-//! Document 01's peeling word by word, with everything written down: who joins the queue, who is removed, and how many
-//! wait. Degrees are counted from nothing after each removal. It shares nothing with the program's own peeling.
+//! Document 01's peeling word by word, with everything written down: who joins the queue, who is removed, and
+//! how many wait. Degrees are counted from nothing after each removal. It shares nothing with the program's
+//! own peeling.
 
 use std::collections::{BTreeMap, BTreeSet};
 

@@ -25,8 +25,8 @@ fn shown(
     format!("shown 4844{header}5754{weights}4756{values}524b{rank}{keys}{after}")
 }
 
-/// What is built with so many waiting at once at most, and read of the file: the n, r and v, the lines of its codes and
-/// strangers, and the listing.
+/// What is built with so many waiting at once at most, and read of the file: the n, r and v, the lines of its
+/// codes and strangers, and the listing.
 fn assert_read(words: &str, most: usize, sizes: &str, found: &[&str], listing: &str) {
     assert_eq!(to_builds(words), [format!("built {most}")], "{words}");
     assert_eq!(to("O", words), [format!("opened {sizes}")], "{words}");
@@ -59,8 +59,8 @@ fn case_1_with_2_and_3() {
 }
 
 /// Case 4: BA (2,5) gives vertex 2 the value 0, so that the values are 2 2 0 2 and 2 2 2 2. Case 9:
-/// all values are 2. Case 10: 0 3 3. A code by itself waits from the start. The bytes after the files are 165 + 180 - 256, which is 59 in
-/// hex, 165 + 145 - 256 (36) and 165 + 243 - 256 (98).
+/// all values are 2. Case 10: 0 3 3. A code by itself waits from the start. The bytes after the files are
+/// 165 + 180 - 256, which is 59 in hex, 165 + 145 - 256 (36) and 165 + 243 - 256 (98).
 #[test]
 fn cases_4_9_and_10() {
     assert_read("case 4", 1, "1 2 4", &["at 0", "unknown"], "0 4241");
@@ -129,10 +129,10 @@ fn cases_11_and_12() {
     );
 }
 
-/// The lines are the design's; `tests/witnesses.rs` works out the values and who waits. For r = 3, v = 5 they are
-/// 2 0 0 3, 3 3 3 1, 1 3 3 3 and 3 3 3; for v = 2 they are 0 0 1 3 and 3 3. For r = 2, v = 100 the
-/// vertices 10 and 90 have 0, in the bytes 2 and 22 of 50. The bytes after the files are
-/// 165 + 386 - 512 (27), 165 + 314 - 256 (DF) and 165 + 269 - 256 (B2).
+/// The lines are the design's; `tests/witnesses.rs` works out the values and who waits. For r = 3, v = 5 they
+/// are 2 0 0 3, 3 3 3 1, 1 3 3 3 and 3 3 3; for v = 2 they are 0 0 1 3 and 3 3. For r = 2, v = 100 the
+/// vertices 10 and 90 have 0, in the bytes 2 and 22 of 50. The bytes after the files are 165 + 386 - 512
+/// (27), 165 + 314 - 256 (DF) and 165 + 269 - 256 (B2).
 #[test]
 fn the_lists_that_pin_more() {
     let words = "r = 3, v = 5: the order j = 0, 1, .. decides the lines";
@@ -253,8 +253,8 @@ fn zero_bytes() {
     assert_eq!(to_builds(words), ["refused 8 2"]);
 }
 
-/// Code k has vertex k alone and shares the others with all: it waits from the start and lands on k. The codes are v - 1,
-/// v - 4 and so on, so that their lines fall to 0. The stranger's byte is v.
+/// Code k has vertex k alone and shares the others with all: it waits from the start and lands on k. The
+/// codes are v - 1, v - 4 and so on, so that their lines fall to 0. The stranger's byte is v.
 #[test]
 fn blocks() {
     for (r, v) in [

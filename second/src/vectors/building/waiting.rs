@@ -1,5 +1,5 @@
-//! Lists that pin the most codes waiting at once: all of them from the start, the most after a later step, and never
-//! more than two.
+//! Lists that pin the most codes waiting at once: all of them from the start, the most after a later step,
+//! and never more than two.
 
 use super::{build, round_trip};
 use crate::sizes::{MOST_VERTICES, WEIGHTS_OF_A_PART};
