@@ -5,8 +5,8 @@ use crate::page::bytes;
 use second::header::checked_header;
 use second::random::Random;
 use second::{
-    build as build_file, length, list as list_file, lookup, open, show, CodeList, Found, Header,
-    Part, Refusal,
+    build as build_file, length, list as list_file, lookup, open, show, Built, CodeList, Found,
+    Header, Part, Refusal,
 };
 use std::collections::BTreeMap;
 use std::fmt;
@@ -94,23 +94,23 @@ impl Trials<'_> {
     }
 }
 
-/// Builds what is lent under this name, and gives back the file if there is one.
-pub fn build(input: &Input, name: &str, trials: &mut Trials) -> Option<Vec<u8>> {
+/// Builds what is lent under this name, and gives back the file and the most codes waiting at once, if it is built.
+pub fn build(input: &Input, name: &str, trials: &mut Trials) -> Option<(Vec<u8>, Built)> {
     let list = CodeList {
         run: &input.run,
         ends: &input.ends,
     };
     let mut buffer = vec![BLANK; input.room];
     let answer = build_file(&list, input.r, input.v, &input.weights, &mut buffer);
-    let (number, place) = answer.map_or_else(|no| (no.number, no.place), |()| (0, 0));
+    let (number, place) = answer.map_or_else(|no| (no.number, no.place), |_| (0, 0));
     let trial = format!("answers {name} {number} {place}");
     trials.add(&format!("build {number}"), trial);
     let trial = format!("leaves {name} {}", bytes(&buffer));
     trials.add("buffer", trial);
     let size = measure(input.ends.len() as u64, input.r, input.v, trials);
-    answer.ok()?;
+    let built = answer.ok()?;
     buffer.truncate(size);
-    Some(buffer)
+    Some((buffer, built))
 }
 
 /// The length of the file for n, r and v; 0 where the sizes do not allow them.

@@ -23,8 +23,8 @@ pub const BLANK: u8 = 0xAA;
 /// The bytes that codes are made of: few, so that codes meet.
 const LETTERS: [u8; 6] = [0, 1, 65, 66, 67, 255];
 
-/// The most bytes of a code.
-const LONGEST: u64 = 32;
+/// The most bytes of a code, and the weights of a part.
+pub const LONGEST: u64 = 32;
 
 /// One code more than a directory may hold.
 const TOO_MANY_CODES: usize = 1_025;
@@ -48,10 +48,20 @@ pub fn input(number: u64, random: &mut Random) -> Input {
     let codes: Vec<Vec<u8>> = (0..n)
         .map(|_| [&code(random, longest - 1)[..], &[random.one_of(&LETTERS)]].concat())
         .collect();
+    let mut input = lent(codes, r, v, weights);
+    let needed = input.room;
+    input.room += random.below(4) as usize;
+    if number.is_multiple_of(3) {
+        put_fault(number / 3 % FAULTS, &mut input, needed, random);
+    }
+    input
+}
+
+/// An input with room for the file and no more.
+pub fn lent(codes: Vec<Vec<u8>>, r: u64, v: u64, weights: Vec<u16>) -> Input {
     let (run, ends) = run_and_ends(&codes);
-    let needed = length(n, r, v).expect("these sizes are allowed");
-    let room = needed + random.below(4) as usize;
-    let mut input = Input {
+    let room = length(codes.len() as u64, r, v).expect("these sizes are allowed");
+    Input {
         codes,
         run,
         ends,
@@ -59,11 +69,7 @@ pub fn input(number: u64, random: &mut Random) -> Input {
         v,
         weights,
         room,
-    };
-    if number.is_multiple_of(3) {
-        put_fault(number / 3 % FAULTS, &mut input, needed, random);
     }
-    input
 }
 
 /// The kinds of fault that an input can have.

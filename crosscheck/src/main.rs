@@ -2,10 +2,12 @@
 //! on random inputs. The checker then computes the definitions and refuses the page if one differs.
 
 mod calls;
+mod growing;
 mod inputs;
 mod page;
 
 use calls::{Tally, Trials};
+use inputs::Input;
 use page::Page;
 use second::random::Random;
 use std::process::ExitCode;
@@ -14,6 +16,9 @@ const USAGE: &str = "usage: crosscheck SEED LISTS";
 
 /// Changed copies of each file that is built.
 const COPIES: u64 = 11;
+
+/// Lists, after the others, in which more codes wait later than at the start.
+const GROWING: u64 = 4;
 
 fn main() -> ExitCode {
     let arguments = std::env::args().skip(1);
@@ -25,8 +30,13 @@ fn main() -> ExitCode {
     let mut random = Random::new(seed);
     let mut page = Page::new(seed, lists);
     let mut tally = Tally::default();
-    for number in 0..lists {
-        list(number, &mut random, &mut page, &mut tally);
+    for number in 0..lists + GROWING {
+        let input = if number < lists {
+            inputs::input(number, &mut random)
+        } else {
+            growing::input(&mut random)
+        };
+        list(number, &input, &mut random, &mut page, &mut tally);
     }
     print!("{}", page.text());
     eprintln!("crosscheck: seed {seed}: {tally}");
@@ -40,15 +50,15 @@ fn main() -> ExitCode {
 }
 
 /// One random list: its build, and if it builds, the calls on its file and on changed copies.
-fn list(number: u64, random: &mut Random, page: &mut Page, tally: &mut Tally) {
-    let input = inputs::input(number, random);
+fn list(number: u64, input: &Input, random: &mut Random, page: &mut Page, tally: &mut Tally) {
     let mut trials = Trials::new(tally);
     let lent = format!("I{number}");
-    page.define(&lent, "Lent", &page::lent(&input));
+    page.define(&lent, "Lent", &page::lent(input));
     let mut defined = vec![lent.clone()];
-    if let Some(file) = calls::build(&input, &lent, &mut trials) {
+    if let Some((file, built)) = calls::build(input, &lent, &mut trials) {
         let name = format!("F{number}");
         page.define(&name, "List ℕ", &page::bytes(&file));
+        page.say_most_waiting(number, [&lent, &name], built.most_waiting);
         calls::on_file(&file, &name, &input.codes, random, &mut trials);
         for _ in 0..COPIES {
             let (copy, text) = inputs::changed(&file, &name, random);

@@ -1,5 +1,5 @@
-//! What the calls give back: a refusal with its number and place, the answer of a lookup, a part
-//! of a file. Every refusal number is explained here in words.
+//! What the calls give back: a refusal with its number and place, what a build gives on success, the
+//! answer of a lookup, a part of a file. Every refusal number is explained here in words.
 
 /// The numbers of the refusals, by name.
 pub const ARITY: u8 = 1;
@@ -110,6 +110,13 @@ impl Refusal {
 /// A refusal as the answer of a call.
 pub fn refuse<T>(number: u8, place: usize) -> Result<T, Refusal> {
     Err(Refusal { number, place })
+}
+
+/// What a build gives on success.
+#[derive(Clone, Copy, Debug, PartialEq, Eq)]
+pub struct Built {
+    /// The most codes waiting at once, counted after the start and after each peeling step.
+    pub most_waiting: usize,
 }
 
 /// The answer of a lookup.

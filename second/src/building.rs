@@ -1,9 +1,11 @@
 //! Building: the refusals 1 to 8 in their order, and only then the file into the lent buffer.
 
-use crate::answers::{refuse, Refusal, ARITY, BUFFER, CYCLIC, PART_SIZE, TOO_MANY_CODES, WEIGHTS};
+use crate::answers::{
+    refuse, Built, Refusal, ARITY, BUFFER, CYCLIC, PART_SIZE, TOO_MANY_CODES, WEIGHTS,
+};
 use crate::codes::{check_all_different, CodeList};
 use crate::file;
-use crate::graph::removal_list;
+use crate::graph::{peel, Peeled};
 use crate::header::Header;
 use crate::sizes::{arity_allowed, count_allowed, part_size_allowed, WEIGHTS_OF_A_PART};
 use crate::table::{landing_vertex, line, rank_entries, values};
@@ -17,16 +19,28 @@ pub fn build(
     v: u64,
     weights: &[u16],
     buffer: &mut [u8],
-) -> Result<(), Refusal> {
+) -> Result<Built, Refusal> {
     let header = check_sizes(list, r, v, weights)?;
     let codes = list.codes()?;
     if buffer.len() < header.length() {
         return refuse(BUFFER, header.length());
     }
     check_all_different(&codes)?;
-    let file = directory(&header, weights, &codes)?;
+    let vertices_of: Vec<Vec<usize>> = codes
+        .iter()
+        .map(|code| vertices(code, weights, header.r, header.v))
+        .collect();
+    let Peeled {
+        removal_list,
+        most_waiting,
+    } = peel(&vertices_of);
+    let left = codes.len() - removal_list.len();
+    if left > 0 {
+        return refuse(CYCLIC, left);
+    }
+    let file = directory(&header, weights, &codes, &vertices_of, &removal_list);
     buffer[..file.len()].copy_from_slice(&file);
-    Ok(())
+    Ok(Built { most_waiting })
 }
 
 /// Refusals 1 to 4.
@@ -51,19 +65,16 @@ fn check_sizes(list: &CodeList, r: u64, v: u64, weights: &[u16]) -> Result<Heade
     })
 }
 
-/// The file of different codes, or refusal 8 with the number of codes left.
-fn directory(header: &Header, weights: &[u16], codes: &[&[u8]]) -> Result<Vec<u8>, Refusal> {
+/// The file of codes that are all removed, in this order.
+fn directory(
+    header: &Header,
+    weights: &[u16],
+    codes: &[&[u8]],
+    vertices_of: &[Vec<usize>],
+    removal_list: &[usize],
+) -> Vec<u8> {
     let r = header.r;
-    let vertices_of: Vec<Vec<usize>> = codes
-        .iter()
-        .map(|code| vertices(code, weights, r, header.v))
-        .collect();
-    let removal_list = removal_list(&vertices_of);
-    let left = codes.len() - removal_list.len();
-    if left > 0 {
-        return refuse(CYCLIC, left);
-    }
-    let values = values(&vertices_of, &removal_list, r, header.vertices());
+    let values = values(vertices_of, removal_list, r, header.vertices());
     let mut lines_and_codes: Vec<(usize, &[u8])> = vertices_of
         .iter()
         .zip(codes)
@@ -72,11 +83,11 @@ fn directory(header: &Header, weights: &[u16], codes: &[&[u8]]) -> Result<Vec<u8
     lines_and_codes.sort();
     let codes_in_line_order: Vec<&[u8]> = lines_and_codes.iter().map(|&(_, code)| code).collect();
     let rank_entries = rank_entries(&values, r);
-    Ok(file::write(
+    file::write(
         header,
         weights,
         &values,
         &rank_entries,
         &codes_in_line_order,
-    ))
+    )
 }

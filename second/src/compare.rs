@@ -16,8 +16,8 @@ use call::{Call, Given};
 use counts::Counts;
 
 pub use calls::{
-    Calls, DsAnswer, DsAsked, DsFound, DsOpened, DsPart, DsReported, ACCEPTED, AT, FRESH, NEVER,
-    REFUSED, STALE, UNKNOWN,
+    Calls, DsAnswer, DsAsked, DsCounted, DsFound, DsOpened, DsPart, DsReported, ACCEPTED, AT,
+    FRESH, NEVER, REFUSED, STALE, UNKNOWN,
 };
 pub use second::Second;
 

@@ -1,6 +1,6 @@
-//! The second program: the code directory of document 01 and the sign of document 02 a), written from
-//! the documents alone and as literally as possible, so that the proved implementation can be held to
-//! account with it.
+//! The second program: the code directory of document 01, with the number of document 02 b), and the
+//! sign of document 02 a), written from the documents alone and as literally as possible, so that the
+//! proved implementation can be held to account with it.
 #![deny(unsafe_code)]
 
 pub mod answers;
@@ -25,7 +25,7 @@ pub mod trial;
 pub mod vectors;
 pub mod vertices;
 
-pub use answers::{Found, Part, Refusal};
+pub use answers::{Built, Found, Part, Refusal};
 pub use building::build;
 pub use codes::CodeList;
 pub use header::Header;

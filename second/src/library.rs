@@ -1,7 +1,7 @@
 //! The proved library, as include/dronesickle.h declares it. This module alone has `unsafe`.
 #![allow(unsafe_code)]
 
-use crate::compare::{Calls, DsAnswer, DsAsked, DsFound, DsOpened, DsPart, DsReported};
+use crate::compare::{Calls, DsAnswer, DsAsked, DsCounted, DsFound, DsOpened, DsPart, DsReported};
 use crate::sign::Report;
 use crate::CodeList;
 
@@ -22,6 +22,19 @@ unsafe extern "C" {
         buffer: *mut u8,
         buffer_len: usize,
     ) -> DsAnswer;
+
+    fn ds_build_counted(
+        run: *const u8,
+        run_len: usize,
+        ends: *const u16,
+        ends_len: usize,
+        r: usize,
+        v: usize,
+        weights: *const u16,
+        weights_len: usize,
+        buffer: *mut u8,
+        buffer_len: usize,
+    ) -> DsCounted;
 
     fn ds_open(file: *const u8, file_len: usize) -> DsOpened;
 
@@ -76,6 +89,31 @@ impl Calls for Library {
         // buffer is lent to this call alone, so that it overlaps none of the others.
         unsafe {
             ds_build(
+                list.run.as_ptr(),
+                list.run.len(),
+                list.ends.as_ptr(),
+                list.ends.len(),
+                r,
+                v,
+                weights.as_ptr(),
+                weights.len(),
+                buffer.as_mut_ptr(),
+                buffer.len(),
+            )
+        }
+    }
+
+    fn build_counted(
+        &self,
+        list: &CodeList,
+        r: usize,
+        v: usize,
+        weights: &[u16],
+        buffer: &mut [u8],
+    ) -> DsCounted {
+        // SAFETY: as for `build`, whose parameters these are.
+        unsafe {
+            ds_build_counted(
                 list.run.as_ptr(),
                 list.run.len(),
                 list.ends.as_ptr(),

@@ -7,7 +7,7 @@
 //! | `S` | `shown` and the code in hex, or `nothing` |
 //! | `D` | the same of all of the file |
 //! | `T` | the lister's lines |
-//! | `B` | `built` or `refused NUMBER PLACE`, and two checksums of the whole buffer |
+//! | `B` | `built MOST`, with the most codes waiting at once, or `refused NUMBER PLACE`, and two checksums of the whole buffer |
 //! | `N` | `length` and a number, 0 outside the sizes |
 //! | `G` | `group`, the calls that give the number, and what its place names |
 //! | `A` | `accepted LINE`, `unknown` or `refused NUMBER PLACE`, and two checksums of the levels and two of the times |

@@ -3,8 +3,8 @@
 
 mod common;
 
-use common::{coloured, diagonal, directory, refusal, Input, CASE_1};
-use second::graph::removal_list;
+use common::{built, case_1, coloured, diagonal, directory, refusal, Input, CASE_1};
+use second::graph::peel;
 use second::table::{assigned, landing_vertex, line, rank_entries, values};
 use second::vertices::{sum, vertices};
 use second::{length, list, lookup, open, show, Found, Header};
@@ -54,7 +54,16 @@ fn case_1_vertices_of_the_codes() {
 /// "They peel as BB, DA, BC, BA": codes 1, 2, 3 and 0 of the list.
 #[test]
 fn case_1_order_of_removal() {
-    assert_eq!(removal_list(&case_1_vertices()), [1, 2, 3, 0]);
+    assert_eq!(peel(&case_1_vertices()).removal_list, [1, 2, 3, 0]);
+}
+
+/// Reading 36: "case 1 gives 3". By hand: BB, DA and BC have the vertices 6, 0 and 7 to themselves and wait from the
+/// start. BB leaves two waiting; DA leaves BA alone on vertex 5, which joins BC; BC leaves BA waiting, which then goes.
+/// So 3, 2, 2, 1 and 0 wait.
+#[test]
+fn case_1_most_waiting() {
+    assert_eq!(peel(&case_1_vertices()).most_waiting, 3);
+    assert_eq!(case_1().build(), built(3));
 }
 
 #[test]
@@ -155,9 +164,10 @@ fn case_8_a_code_twice() {
     assert_eq!(usual_refusal(&[b"BA", b"BB", b"BA"]), (7, 2));
 }
 
-/// The length by hand: 13 + 64·2 + 2 + 2·1 = 145. With no codes there is no KY record.
+/// The length by hand: 13 + 64·2 + 2 + 2·1 = 145. With no codes there is no KY record. Reading 36: n = 0 gives 0.
 #[test]
 fn case_9_no_codes() {
+    assert_eq!(Input::new(&[], 2, 4, &diagonal(2)).build(), built(0));
     let file = usual(&[]);
     assert_eq!(file.len(), 145);
     assert_eq!(open(&file), Ok(Header { n: 0, r: 2, v: 4 }));
@@ -210,7 +220,7 @@ fn case_11_largest_part_size() {
 fn case_12_the_buffer() {
     let mut input = Input::new(&CASE_1, 2, 4, &diagonal(2));
     input.buffer = coloured(285);
-    assert_eq!(input.build(), Ok(()));
+    assert_eq!(input.build(), built(3));
     assert_eq!(input.buffer, usual(&CASE_1));
     input.buffer = coloured(284);
     assert_eq!(input.build(), Err(refusal(6, 285)));

@@ -4,8 +4,8 @@
 mod common;
 
 use common::{
-    case_1, case_1_file, coloured, directory, lent, many_codes, refusal, star_weights, CASE_1, GV,
-    WT,
+    built, case_1, case_1_file, coloured, directory, lent, many_codes, refusal, star_weights,
+    Input, CASE_1, GV, WT,
 };
 use second::text::run_and_ends;
 use second::{length, lookup, open, show, CodeList, Found, Header};
@@ -14,7 +14,7 @@ use second::{length, lookup, open, show, CodeList, Found, Header};
 fn a_build_leaves_the_bytes_after_the_file() {
     let mut input = case_1();
     input.buffer = coloured(500);
-    assert_eq!(input.build(), Ok(()));
+    assert_eq!(input.build(), built(3));
     assert_eq!(input.buffer[..285], case_1_file());
     assert_eq!(input.buffer[285..], coloured(500)[285..]);
 }
@@ -37,7 +37,7 @@ fn the_length_formula() {
     assert_eq!(length(0, 2, 0), None);
 }
 
-/// 1,024 codes, each with a vertex of its own in part 0 and the rest shared. All wait from the
+/// 1,024 codes, each with a vertex of its own in part 0 and the rest shared. All 1,024 wait from the
 /// start and are removed in list order. By hand, from the end: the last code finds nothing visited
 /// and gives its vertex 0; every other one adds r for each shared vertex, which is 0 mod r, and
 /// gives its own vertex 0 too. So code k lands on vertex k and has line k, and rank entry b is
@@ -47,7 +47,9 @@ fn the_length_formula() {
 fn the_most_codes() {
     let codes = many_codes(1_024);
     for (r, v, file_length) in [(2_usize, 2_048_usize, 37_133), (3, 1_365, 37_197)] {
-        let file = directory(&lent(&codes), r as u64, v as u64, &star_weights(r));
+        let mut input = Input::new(&lent(&codes), r as u64, v as u64, &star_weights(r));
+        assert_eq!(input.build(), built(1_024));
+        let file = input.buffer;
         assert_eq!(file.len(), file_length);
         assert_eq!(file[2..7], [0, 4, r as u8, v as u8, (v / 256) as u8]);
         assert_eq!(file[9..13], [0, 1, 1, 0], "the weights 256 and 1");

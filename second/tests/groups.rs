@@ -1,10 +1,15 @@
 //! Demand 3 of the letter by brute force: on many small random lists, every non-empty set of codes
 //! is tried as a group in which each vertex that a member names is named by at least two members.
-//! The expected values come from that search, which shares nothing with the peeling.
+//! The expected values come from that search, which shares nothing with the peeling; the most codes
+//! waiting at once come from document 01's peeling word by word.
 
+mod common;
+
+use common::peeling::{named_vertices, peeling};
+use common::{built, refusal};
 use second::random::Random;
 use second::text::run_and_ends;
-use second::{build, length, lookup, open, show, CodeList, Found, Header, Refusal};
+use second::{build, length, lookup, open, show, CodeList, Found, Header};
 use std::collections::BTreeSet;
 
 /// Where the generator starts.
@@ -60,24 +65,8 @@ fn random_trial(random: &mut Random) -> Trial {
     }
 }
 
-/// The vertices of each code, straight from document 01's formula.
-fn named_vertices(trial: &Trial) -> Vec<Vec<u64>> {
-    let vertex = |code: &[u8], j: usize| {
-        let mut sum: u64 = 0;
-        for (i, &byte) in code.iter().enumerate() {
-            sum += u64::from(byte) * u64::from(trial.weights[32 * j + i]);
-        }
-        sum % trial.v as u64 + (j * trial.v) as u64
-    };
-    trial
-        .codes
-        .iter()
-        .map(|code| (0..trial.r).map(|j| vertex(code, j)).collect())
-        .collect()
-}
-
 /// Whether every vertex that a member of the set names is named by at least two members.
-fn is_group(members: &[&Vec<u64>]) -> bool {
+fn is_group(members: &[&Vec<usize>]) -> bool {
     members.iter().all(|vertices| {
         vertices.iter().all(|vertex| {
             let naming = members.iter().filter(|other| other.contains(vertex));
@@ -87,11 +76,10 @@ fn is_group(members: &[&Vec<u64>]) -> bool {
 }
 
 /// The size of the largest group among all non-empty sets of codes, or 0 if there is no group.
-fn largest_group(trial: &Trial) -> usize {
-    let named = named_vertices(trial);
+fn largest_group(named: &[Vec<usize>]) -> usize {
     let mut largest = 0;
     for set in 1_u32..1 << named.len() {
-        let members: Vec<&Vec<u64>> = (0..named.len())
+        let members: Vec<&Vec<usize>> = (0..named.len())
             .filter(|k| set >> k & 1 == 1)
             .map(|k| &named[k])
             .collect();
@@ -138,16 +126,13 @@ fn check(trial: &Trial, words: &str) -> usize {
     let needed = length(trial.codes.len() as u64, r, v).expect("allowed numbers");
     let mut buffer = vec![0xA5; needed];
     let answer = build(&list, r, v, &trial.weights, &mut buffer);
-    let largest = largest_group(trial);
+    let named = named_vertices(&trial.codes, &trial.weights, trial.r, trial.v);
+    let largest = largest_group(&named);
     if largest > 0 {
-        let cyclic = Refusal {
-            number: 8,
-            place: largest,
-        };
-        assert_eq!(answer, Err(cyclic), "{words}");
+        assert_eq!(answer, Err(refusal(8, largest)), "{words}");
         assert_eq!(buffer, vec![0xA5; needed], "{words}");
     } else {
-        assert_eq!(answer, Ok(()), "{words}");
+        assert_eq!(answer, built(peeling(&named).most_waiting()), "{words}");
         check_built(trial, &buffer, words);
     }
     largest

@@ -5,7 +5,7 @@
 mod common;
 
 use common::{case_1_file, coloured, diagonal, directory, refusal, Input, GV, KY, KY_BYTES, RK};
-use second::graph::removal_list;
+use second::graph::peel;
 use second::table::{rank_entries, values};
 use second::vertices::vertices;
 use second::{list, lookup, open, show, Found, Header, Part};
@@ -272,17 +272,20 @@ fn reading_26_the_listers_input_is_not_cut() {
 /// Removal order and lines are the design's. By hand, the values: BAE gives vertex 1 the value 0,
 /// BDF vertex 8 the value 1, CFF (sum 3 + 3) vertex 2 the value 0, FDE (sum 1 + 3) vertex 0 the
 /// value 2, CCD vertex 7 the value 1. Going through a code's vertices from j = r-1 down would
-/// remove in the order 2 4 0 1 3.
+/// remove in the order 2 4 0 1 3. By hand, who waits: 2 and 4 from the start; 2 leaves 0 alone on vertex
+/// 2; 4 leaves 3 alone on vertex 8 and 1 on 14, so that 0, 3 and 1 wait; 0 leaves 1 alone on 5 and 3 on
+/// 10, which wait already. So 2, 2, 3, 2, 1 and 0 wait: counted before the others join, 2 at most.
 #[test]
 fn vector_arity_3_with_five_codes() {
     let codes: [&[u8]; 5] = [b"CFF", b"BAE", b"CCD", b"BDF", b"FDE"];
     let vertices_of = vertices_of(&codes, 3, 5);
     let by_hand = [[2, 5, 10], [1, 5, 14], [2, 7, 13], [1, 8, 10], [0, 8, 14]];
     assert_eq!(vertices_of, by_hand);
-    let order = removal_list(&vertices_of);
-    assert_eq!(order, [2, 4, 0, 3, 1]);
+    let peeled = peel(&vertices_of);
+    assert_eq!(peeled.removal_list, [2, 4, 0, 3, 1]);
+    assert_eq!(peeled.most_waiting, 3);
     assert_eq!(
-        values(&vertices_of, &order, 3, 15),
+        values(&vertices_of, &peeled.removal_list, 3, 15),
         [2, 0, 0, 3, 3, 3, 3, 1, 1, 3, 3, 3, 3, 3, 3]
     );
     let file = directory(&codes, 3, 5, &diagonal(3));
@@ -291,15 +294,20 @@ fn vector_arity_3_with_five_codes() {
 
 /// The order is the design's: removing AAA brings two vertices of BAA to degree 1 in one step. By
 /// hand, the values: BAA gives vertex 0 the value 0, BBB vertex 2 the value 1, AAA (sum 3 + 3)
-/// vertex 1 the value 0. So BAA lands on 0, AAA on 1 and BBB (0 + 1 + 3) on 2.
+/// vertex 1 the value 0. So BAA lands on 0, AAA on 1 and BBB (0 + 1 + 3) on 2. AAA and BBB wait from the
+/// start, then BBB and BAA: if BAA joined twice, there would be 3.
 #[test]
 fn vector_a_code_that_would_join_twice() {
     let codes: [&[u8]; 3] = [b"BAA", b"AAA", b"BBB"];
     let vertices_of = vertices_of(&codes, 3, 2);
     assert_eq!(vertices_of, [[0, 3, 5], [1, 3, 5], [0, 2, 4]]);
-    let order = removal_list(&vertices_of);
-    assert_eq!(order, [1, 2, 0]);
-    assert_eq!(values(&vertices_of, &order, 3, 6), [0, 0, 1, 3, 3, 3]);
+    let peeled = peel(&vertices_of);
+    assert_eq!(peeled.removal_list, [1, 2, 0]);
+    assert_eq!(peeled.most_waiting, 2);
+    assert_eq!(
+        values(&vertices_of, &peeled.removal_list, 3, 6),
+        [0, 0, 1, 3, 3, 3]
+    );
     let file = directory(&codes, 3, 2, &diagonal(3));
     assert_eq!(lines(&file, &codes), at(&[0, 1, 2]));
 }
@@ -309,7 +317,7 @@ fn vector_rank_entries_over_four_blocks() {
     let codes: [&[u8]; 2] = [b"\x0A\x05", b"\x5A\x06"];
     let vertices_of = vertices_of(&codes, 2, 100);
     assert_eq!(vertices_of, [[10, 105], [90, 106]]);
-    let values = values(&vertices_of, &removal_list(&vertices_of), 2, 200);
+    let values = values(&vertices_of, &peel(&vertices_of).removal_list, 2, 200);
     assert_eq!(rank_entries(&values, 2), [0, 1, 2, 2]);
     let file = directory(&codes, 2, 100, &diagonal(2));
     assert_eq!(open(&file), Ok(Header { n: 2, r: 2, v: 100 }));

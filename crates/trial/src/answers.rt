@@ -86,10 +86,13 @@ fn write_sums(sums: Sums) {
     write_number(sums.second);
 }
 
-// The answer of a build, and the checksums of its buffer.
+// The answer of a build, on success the most codes waiting at once, and the checksums of its buffer.
 pub fn write_built(built: Built, sums: Sums) {
     match built {
-        Built::Done => write(b"built"),
+        Built::Done(most) => {
+            write(b"built");
+            write_number(most as u64);
+        }
         Built::Refused(number, place) => write_refused(number, place),
     }
     write_sums(sums);

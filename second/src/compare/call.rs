@@ -1,7 +1,7 @@
 //! One call with all that it is lent: what a program gives, and the call written as vectors, so that it can be
 //! repeated.
 
-use super::calls::{Calls, DsAnswer, DsAsked, DsFound, DsOpened, DsPart, DsReported};
+use super::calls::{Calls, DsAnswer, DsAsked, DsCounted, DsFound, DsOpened, DsPart, DsReported};
 use crate::vectors::inputs::Input;
 use crate::vectors::script::Script;
 use crate::vectors::traces::SignCall;
@@ -17,6 +17,10 @@ pub enum Call<'a> {
         v: usize,
     },
     Build {
+        input: &'a Input,
+        buffer: &'a [u8],
+    },
+    BuildCounted {
         input: &'a Input,
         buffer: &'a [u8],
     },
@@ -43,6 +47,7 @@ pub enum Call<'a> {
 pub enum Given {
     Length(usize),
     Built(DsAnswer, Vec<u8>),
+    Counted(DsCounted, Vec<u8>),
     Opened(DsOpened),
     Found(DsFound),
     Part(DsPart),
@@ -61,6 +66,13 @@ impl Call<'_> {
                 let answer = program.build(&input.list(), r, v, &input.weights, &mut buffer);
                 Given::Built(answer, buffer)
             }
+            Call::BuildCounted { input, buffer } => {
+                let mut buffer = buffer.to_vec();
+                let (r, v) = (input.r as usize, input.v as usize);
+                let answer =
+                    program.build_counted(&input.list(), r, v, &input.weights, &mut buffer);
+                Given::Counted(answer, buffer)
+            }
             Call::Open { file } => Given::Opened(program.open(file)),
             Call::Lookup { file, code } => Given::Found(program.lookup(file, code)),
             Call::Show { file, line } => Given::Part(program.show(file, line)),
@@ -73,7 +85,7 @@ impl Call<'_> {
         let mut script = Script::default();
         match *self {
             Call::Length { n, r, v } => script.length(n as u64, r as u64, v as u64),
-            Call::Build { input, buffer } => {
+            Call::Build { input, buffer } | Call::BuildCounted { input, buffer } => {
                 script.file(buffer);
                 // What the second program answers, the vectors say too.
                 let _ = script.build(input);
@@ -120,6 +132,9 @@ impl Given {
     pub fn words(&self, other: &Given) -> String {
         match (self, other) {
             (Given::Built(answer, buffer), Given::Built(_, others)) => {
+                format!("{answer:?}, {}", difference("the buffer", buffer, others))
+            }
+            (Given::Counted(answer, buffer), Given::Counted(_, others)) => {
                 format!("{answer:?}, {}", difference("the buffer", buffer, others))
             }
             (Given::Reported(answer, lists), Given::Reported(_, others)) => {

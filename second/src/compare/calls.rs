@@ -21,6 +21,14 @@ pub struct DsAnswer {
 
 #[repr(C)]
 #[derive(Clone, Copy, Debug, Default, PartialEq, Eq)]
+pub struct DsCounted {
+    pub number: u32,
+    pub place: usize,
+    pub most_waiting: usize,
+}
+
+#[repr(C)]
+#[derive(Clone, Copy, Debug, Default, PartialEq, Eq)]
 pub struct DsOpened {
     pub number: u32,
     pub place: usize,
@@ -76,6 +84,15 @@ pub trait Calls {
         weights: &[u16],
         buffer: &mut [u8],
     ) -> DsAnswer;
+
+    fn build_counted(
+        &self,
+        list: &CodeList,
+        r: usize,
+        v: usize,
+        weights: &[u16],
+        buffer: &mut [u8],
+    ) -> DsCounted;
 
     fn open(&self, file: &[u8]) -> DsOpened;
 

@@ -23,6 +23,11 @@ const BUILD: Kind = Kind {
     answers: &["built"],
     refusals: &[1..=8],
 };
+const BUILD_COUNTED: Kind = Kind {
+    name: "build counted",
+    answers: &["built"],
+    refusals: &[1..=8],
+};
 const OPEN: Kind = Kind {
     name: "open",
     answers: &["opened"],
@@ -48,7 +53,16 @@ const ASK: Kind = Kind {
     answers: &["never", "fresh", "stale", "unknown"],
     refusals: &[9..=11, 13..=13, 16..=16, 19..=19, 22..=23],
 };
-const KINDS: [Kind; 7] = [LENGTH, BUILD, OPEN, LOOKUP, SHOW, REPORT, ASK];
+const KINDS: [Kind; 8] = [
+    LENGTH,
+    BUILD,
+    BUILD_COUNTED,
+    OPEN,
+    LOOKUP,
+    SHOW,
+    REPORT,
+    ASK,
+];
 
 impl Kind {
     /// Every answer that the call can give, in words.
@@ -72,6 +86,7 @@ impl Counts {
         let (kind, number, answer) = match given {
             Given::Length(length) => (LENGTH, 0, usize::from(*length == 0)),
             Given::Built(answer, _) => (BUILD, answer.number, 0),
+            Given::Counted(counted, _) => (BUILD_COUNTED, counted.number, 0),
             Given::Opened(opened) => (OPEN, opened.number, 0),
             Given::Found(found) => (LOOKUP, found.number, usize::from(found.kind == UNKNOWN)),
             Given::Part(part) => (SHOW, 0, usize::from(part.length == 0)),

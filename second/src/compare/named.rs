@@ -46,7 +46,7 @@ fn vector(comparison: &mut Comparison, line: &str, held: &mut Held) -> Option<Re
     Some(asked.map(|_| ()))
 }
 
-/// Builds in the file that is held, as long as the vector says.
+/// Builds by both calls in the file that is held, as long as the vector says.
 fn build(
     comparison: &mut Comparison,
     held: &mut Held,
@@ -61,11 +61,9 @@ fn build(
         weights: held.weights.clone(),
         room: held.file.len(),
     };
-    let buffer = &held.file;
-    let asked = comparison.ask(&Call::Build {
-        input: &input,
-        buffer,
-    });
+    let (input, buffer) = (&input, &held.file[..]);
+    let counted = comparison.ask(&Call::BuildCounted { input, buffer });
+    let asked = counted.and_then(|_| comparison.ask(&Call::Build { input, buffer }));
     Some(asked.map(|given| {
         if let Given::Built(_, buffer) = given {
             held.file = buffer;

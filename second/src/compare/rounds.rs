@@ -58,15 +58,14 @@ pub fn compare(comparison: &mut Comparison, random: &mut Random) -> Result<(), S
     }
 }
 
-/// Builds a list in a buffer whose bytes count up, and reads what is built.
+/// Builds a list by both calls in a buffer whose bytes count up, and reads what is built.
 fn build(comparison: &mut Comparison, random: &mut Random) -> Result<(), String> {
     let input = lists::input(random);
     let first = random.index(256);
     let buffer: Vec<u8> = (0..input.room).map(|place| (first + place) as u8).collect();
-    let given = comparison.ask(&Call::Build {
-        input: &input,
-        buffer: &buffer,
-    })?;
+    let (input, buffer) = (&input, &buffer[..]);
+    comparison.ask(&Call::BuildCounted { input, buffer })?;
+    let given = comparison.ask(&Call::Build { input, buffer })?;
     let Given::Built(DsAnswer { number: 0, .. }, buffer) = given else {
         return Ok(());
     };

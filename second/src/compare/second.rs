@@ -1,12 +1,12 @@
 //! The second program's answers in the form that C has.
 
 use super::calls::{
-    Calls, DsAnswer, DsAsked, DsFound, DsOpened, DsPart, DsReported, ACCEPTED, AT, FRESH, NEVER,
-    REFUSED, STALE, UNKNOWN,
+    Calls, DsAnswer, DsAsked, DsCounted, DsFound, DsOpened, DsPart, DsReported, ACCEPTED, AT,
+    FRESH, NEVER, REFUSED, STALE, UNKNOWN,
 };
 use crate::header::Header;
 use crate::sign::{ask, report, Asked, Report, Reported};
-use crate::{build, length, lookup, open, show, CodeList, Found, Part, Refusal};
+use crate::{build, length, lookup, open, show, Built, CodeList, Found, Part, Refusal};
 
 /// The second program.
 pub struct Second;
@@ -26,10 +26,31 @@ impl Calls for Second {
         buffer: &mut [u8],
     ) -> DsAnswer {
         match build(list, r as u64, v as u64, weights, buffer) {
-            Ok(()) => DsAnswer::default(),
+            Ok(_) => DsAnswer::default(),
             Err(Refusal { number, place }) => DsAnswer {
                 number: u32::from(number),
                 place,
+            },
+        }
+    }
+
+    fn build_counted(
+        &self,
+        list: &CodeList,
+        r: usize,
+        v: usize,
+        weights: &[u16],
+        buffer: &mut [u8],
+    ) -> DsCounted {
+        match build(list, r as u64, v as u64, weights, buffer) {
+            Ok(Built { most_waiting }) => DsCounted {
+                most_waiting,
+                ..DsCounted::default()
+            },
+            Err(Refusal { number, place }) => DsCounted {
+                number: u32::from(number),
+                place,
+                ..DsCounted::default()
             },
         }
     }

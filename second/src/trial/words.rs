@@ -6,7 +6,7 @@ use crate::listing::refused;
 use crate::refusals::{group, meaning, Group, Meaning};
 use crate::sign::{Asked, Reported};
 use crate::text::hex;
-use crate::{Found, Refusal};
+use crate::{Built, Found, Refusal};
 
 pub fn opened(answer: Result<Header, Refusal>) -> String {
     match answer {
@@ -32,9 +32,9 @@ pub fn shown(bytes: &[u8]) -> String {
 }
 
 /// The answer of a build, and the checksums of the buffer as the build has left it.
-pub fn built(answer: Result<(), Refusal>, buffer: &[u8]) -> String {
+pub fn built(answer: Result<Built, Refusal>, buffer: &[u8]) -> String {
     let words = match answer {
-        Ok(()) => "built".to_string(),
+        Ok(Built { most_waiting }) => format!("built {most_waiting}"),
         Err(refusal) => refused(&refusal),
     };
     words + &summed(buffer)

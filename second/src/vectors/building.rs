@@ -6,6 +6,7 @@ pub mod lists;
 mod order;
 mod refusals;
 mod sizes;
+mod waiting;
 
 use super::inputs::Input;
 use super::read_all;
@@ -24,6 +25,7 @@ pub fn builds(seed: u64, lists: u64) -> String {
     ));
     script.start();
     cases::write(&mut script);
+    waiting::write(&mut script);
     refusals::write(&mut script);
     order::write(&mut script);
     sizes::write(&mut script, &mut random);

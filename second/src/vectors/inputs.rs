@@ -3,11 +3,11 @@
 
 use crate::file;
 use crate::header::Header;
-use crate::sizes::{KEY_BYTES, LONGEST_CODE, MARK_BYTES, WEIGHTS_OF_A_PART};
+use crate::sizes::{KEY_BYTES, LONGEST_CODE, MARK_BYTES, MOST_CODES, WEIGHTS_OF_A_PART};
 use crate::table::{landing_vertex, line, rank_entries};
 use crate::text::run_and_ends;
 use crate::vertices::vertices;
-use crate::{build, length, CodeList, Refusal};
+use crate::{build, length, Built, CodeList, Refusal};
 
 /// The codes of document 01's case 1, in list order.
 pub const CASE_1: [&[u8]; 4] = [b"BA", b"BB", b"DA", b"BC"];
@@ -62,9 +62,16 @@ impl Input {
     }
 
     /// Builds into a buffer.
-    pub fn build(&self, buffer: &mut [u8]) -> Result<(), Refusal> {
+    pub fn build(&self, buffer: &mut [u8]) -> Result<Built, Refusal> {
         build(&self.list(), self.r, self.v, &self.weights, buffer)
     }
+}
+
+/// 1,024 codes of two bytes, (0,0), (0,1) and so on.
+pub fn many() -> Vec<Vec<u8>> {
+    (0..MOST_CODES)
+        .map(|k| vec![(k / 256) as u8, (k % 256) as u8])
+        .collect()
 }
 
 pub fn owned(codes: &[&[u8]]) -> Vec<Vec<u8>> {

@@ -7,7 +7,7 @@ use super::inputs::Input;
 use super::traces::SignCall;
 use crate::sign::{report, Report};
 use crate::text::hex;
-use crate::Refusal;
+use crate::{Built, Refusal};
 use changes::{of_a_file, of_lists, MOST_OF_A_LINE};
 
 /// The vectors so far, and what they leave: the file, what is lent to a build, and the sign's lists.
@@ -109,7 +109,7 @@ impl Script {
 
     /// Builds into the file, and gives back what the build answers. The file is left as the build
     /// leaves its buffer.
-    pub fn build(&mut self, input: &Input) -> Result<(), Refusal> {
+    pub fn build(&mut self, input: &Input) -> Result<Built, Refusal> {
         self.lend(input);
         self.line(&format!("B {} {} {}", input.r, input.v, input.room));
         self.file.resize(input.room, 0);

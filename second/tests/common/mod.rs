@@ -4,11 +4,12 @@
 
 pub mod checksums;
 pub mod meaning;
+pub mod peeling;
 pub mod sections;
 pub mod signs;
 
 use second::text::run_and_ends;
-use second::{build, length, open, CodeList, Header, Refusal};
+use second::{build, length, open, Built, CodeList, Header, Refusal};
 
 /// Everything a build is given.
 #[derive(Clone)]
@@ -38,7 +39,7 @@ impl Input {
     }
 
     /// Builds into the buffer.
-    pub fn build(&mut self) -> Result<(), Refusal> {
+    pub fn build(&mut self) -> Result<Built, Refusal> {
         let list = CodeList {
             run: &self.run,
             ends: &self.ends,
@@ -64,8 +65,14 @@ pub fn diagonal(r: usize) -> Vec<u16> {
 /// The file that a list builds.
 pub fn directory(codes: &[&[u8]], r: u64, v: u64, weights: &[u16]) -> Vec<u8> {
     let mut input = Input::new(codes, r, v, weights);
-    assert_eq!(input.build(), Ok(()), "the list should build");
+    let answer = input.build();
+    assert!(answer.is_ok(), "the list should build: {answer:?}");
     input.buffer
+}
+
+/// The answer of a build with so many codes waiting at once at most, to compare with.
+pub fn built(most_waiting: usize) -> Result<Built, Refusal> {
+    Ok(Built { most_waiting })
 }
 
 /// A refusal, to compare with.

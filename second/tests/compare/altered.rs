@@ -1,6 +1,8 @@
 //! A program that answers as the second program does, but for what a test alters.
 
-use second::compare::{Calls, DsAnswer, DsAsked, DsFound, DsOpened, DsPart, DsReported, Second};
+use second::compare::{
+    Calls, DsAnswer, DsAsked, DsCounted, DsFound, DsOpened, DsPart, DsReported, Second,
+};
 use second::sign::Report;
 use second::CodeList;
 
@@ -9,6 +11,7 @@ use second::CodeList;
 pub struct Altered {
     pub length: fn(&mut usize),
     pub build: fn(&mut DsAnswer, &mut [u8]),
+    pub build_counted: fn(&mut DsCounted, &mut [u8]),
     pub open: fn(&mut DsOpened),
     pub lookup: fn(&mut DsFound),
     pub show: fn(&mut DsPart),
@@ -19,6 +22,7 @@ pub struct Altered {
 pub const UNALTERED: Altered = Altered {
     length: |_| (),
     build: |_, _| (),
+    build_counted: |_, _| (),
     open: |_| (),
     lookup: |_| (),
     show: |_| (),
@@ -43,6 +47,19 @@ impl Calls for Altered {
     ) -> DsAnswer {
         let mut answer = Second.build(list, r, v, weights, buffer);
         (self.build)(&mut answer, buffer);
+        answer
+    }
+
+    fn build_counted(
+        &self,
+        list: &CodeList,
+        r: usize,
+        v: usize,
+        weights: &[u16],
+        buffer: &mut [u8],
+    ) -> DsCounted {
+        let mut answer = Second.build_counted(list, r, v, weights, buffer);
+        (self.build_counted)(&mut answer, buffer);
         answer
     }
 

@@ -1,8 +1,8 @@
 //! Each field of the directory's answers and each byte of its buffers is compared.
 
 use crate::altered::{Altered, UNALTERED};
-use crate::{assert_found_out, difference};
-use second::compare::{DsAnswer, DsFound, DsOpened, DsPart, AT, REFUSED, UNKNOWN};
+use crate::{assert_found_out, change, difference};
+use second::compare::{DsAnswer, DsCounted, DsFound, DsOpened, DsPart, AT, REFUSED, UNKNOWN};
 
 #[test]
 fn another_length_is_found_out() {
@@ -44,6 +44,29 @@ fn each_byte_of_a_buffer_is_compared() {
     let build = refused;
     let words = difference(Altered { build, ..UNALTERED }, 1);
     assert!(words.contains("byte 0 of the buffer"), "{words}");
+}
+
+/// The number of codes waiting is looked at where a list builds and where it is refused.
+#[test]
+fn each_field_and_byte_of_a_counted_build_is_compared() {
+    let changes: [fn(&mut DsCounted, &mut [u8]); 7] = [
+        |counted, _| counted.number += counted.number / 8,
+        |counted, _| counted.place += usize::from(counted.number == 5),
+        |counted, _| counted.most_waiting += usize::from(counted.most_waiting > 9),
+        |counted, _| counted.most_waiting += usize::from(counted.number == 8),
+        |counted, _| counted.place += usize::from(counted.number == 0),
+        |counted, buffer| change(counted.number == 8, buffer.first_mut()),
+        |counted, buffer| change(counted.number == 0, buffer.last_mut()),
+    ];
+    for build_counted in changes {
+        let altered = Altered {
+            build_counted,
+            ..UNALTERED
+        };
+        assert_found_out(altered, "B ");
+        let words = difference(altered, 1);
+        assert!(words.contains("DsCounted"), "{words}");
+    }
 }
 
 #[test]

@@ -32,6 +32,13 @@ fn assert_found_out(program: Altered, call: &str) {
     answers(vectors.as_bytes()).expect("every line is a vector");
 }
 
+/// Changes a byte, if there is one, where a test wants it.
+fn change(here: bool, byte: Option<&mut u8>) {
+    if let (true, Some(byte)) = (here, byte) {
+        *byte ^= 0x40;
+    }
+}
+
 #[test]
 fn the_second_program_is_equal_to_itself_and_every_answer_occurs() {
     let text = compare(&Second, 0, 3).expect("no difference");
@@ -54,6 +61,7 @@ fn too_few_calls_are_no_comparison() {
         .summary(1)
         .expect_err("nothing was compared");
     assert!(words.contains("build: refused 8"), "{words}");
+    assert!(words.contains("build counted: built"), "{words}");
     assert!(words.contains("lookup: refused 16"), "{words}");
     assert!(words.contains("report: refused 18"), "{words}");
     assert!(words.contains("ask: stale"), "{words}");

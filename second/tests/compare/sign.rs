@@ -1,7 +1,7 @@
 //! Each field of the sign's answers and each byte of both lists is compared.
 
 use crate::altered::{Altered, UNALTERED};
-use crate::{assert_found_out, difference};
+use crate::{assert_found_out, change, difference};
 use second::compare::{DsAsked, DsReported, ACCEPTED, FRESH, NEVER, REFUSED, STALE, UNKNOWN};
 
 /// What a test does to a report's answer and to the lists.
@@ -57,12 +57,6 @@ fn each_byte_of_the_lists_is_compared() {
     );
     assert!(words.contains("byte 0 of the levels"), "{words}");
     assert!(words.contains("the times equal"), "{words}");
-}
-
-fn change(here: bool, byte: Option<&mut u8>) {
-    if let (true, Some(byte)) = (here, byte) {
-        *byte ^= 0x40;
-    }
 }
 
 #[test]

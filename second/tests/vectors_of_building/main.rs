@@ -7,6 +7,7 @@ mod common;
 mod all;
 mod built;
 mod refused;
+mod waiting;
 
 use common::sections::{answered, answers_to, Section};
 use second::vectors::builds;

@@ -4,7 +4,7 @@ use super::build;
 use crate::sizes::{ARITIES, LONGEST_CODE, MOST_CODES};
 use crate::text::run_and_ends;
 use crate::trial::LONGEST_FILE;
-use crate::vectors::inputs::{diagonal, owned, Input, CASE_1};
+use crate::vectors::inputs::{diagonal, many, owned, Input, CASE_1};
 use crate::vectors::script::Script;
 
 /// Room for the longest file and some bytes more.
@@ -149,13 +149,6 @@ fn ends(script: &mut Script) {
             build(script, &input);
         }
     }
-}
-
-/// 1,024 codes of two bytes, (0,0), (0,1) and so on.
-fn many() -> Vec<Vec<u8>> {
-    (0..MOST_CODES)
-        .map(|k| vec![(k / 256) as u8, (k % 256) as u8])
-        .collect()
 }
 
 fn ends_of_many(script: &mut Script) {
