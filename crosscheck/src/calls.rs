@@ -5,8 +5,8 @@ use crate::page::bytes;
 use second::header::checked_header;
 use second::random::Random;
 use second::{
-    build as build_file, length, list as list_file, lookup, open, show, Built, CodeList, Found,
-    Header, Part, Refusal,
+    build as build_file, length, list as list_file, lookup, open, show, CodeList, Found, Header,
+    Part, Refusal,
 };
 use std::collections::BTreeMap;
 use std::fmt;
@@ -94,23 +94,26 @@ impl Trials<'_> {
     }
 }
 
-/// Builds what is lent under this name, and gives back the file and the most codes waiting at once, if it is built.
-pub fn build(input: &Input, name: &str, trials: &mut Trials) -> Option<(Vec<u8>, Built)> {
+/// Builds what is lent under this name, and gives back the file if there is one.
+pub fn build(input: &Input, name: &str, trials: &mut Trials) -> Option<Vec<u8>> {
     let list = CodeList {
         run: &input.run,
         ends: &input.ends,
     };
     let mut buffer = vec![BLANK; input.room];
     let answer = build_file(&list, input.r, input.v, &input.weights, &mut buffer);
-    let (number, place) = answer.map_or_else(|no| (no.number, no.place), |_| (0, 0));
-    let trial = format!("answers {name} {number} {place}");
+    let (number, place, most) = answer.map_or_else(
+        |no| (no.number, no.place, 0),
+        |built| (0, 0, built.most_waiting),
+    );
+    let trial = format!("answers {name} {number} {place} {most}");
     trials.add(&format!("build {number}"), trial);
     let trial = format!("leaves {name} {}", bytes(&buffer));
     trials.add("buffer", trial);
     let size = measure(input.ends.len() as u64, input.r, input.v, trials);
-    let built = answer.ok()?;
+    answer.ok()?;
     buffer.truncate(size);
-    Some((buffer, built))
+    Some(buffer)
 }
 
 /// The length of the file for n, r and v; 0 where the sizes do not allow them.

@@ -55,10 +55,9 @@ fn list(number: u64, input: &Input, random: &mut Random, page: &mut Page, tally:
     let lent = format!("I{number}");
     page.define(&lent, "Lent", &page::lent(input));
     let mut defined = vec![lent.clone()];
-    if let Some((file, built)) = calls::build(input, &lent, &mut trials) {
+    if let Some(file) = calls::build(input, &lent, &mut trials) {
         let name = format!("F{number}");
         page.define(&name, "List ℕ", &page::bytes(&file));
-        page.say_most_waiting(number, [&lent, &name], built.most_waiting);
         calls::on_file(&file, &name, &input.codes, random, &mut trials);
         for _ in 0..COPIES {
             let (copy, text) = inputs::changed(&file, &name, random);

@@ -10,8 +10,6 @@ use lib.ListN.{take, set, replicate}
 use Rattle.counting.specs.Lists.{every}
 use Rattle.directory.specs.Building.{Lent}
 use Rattle.directory.specs.Trials.{answers, leaves, measures, reads, stops, opens, fails, finds, misses, rejects, shows, prints, isSo}
-use Rattle.directory.specs.Sayings.{waits, isTrue}
-use Rattle.directory.specs.Computing.{computing}
 ";
 
 /// Trials of one theorem: few enough for the checker's limit on one computation.
@@ -32,16 +30,6 @@ impl Page {
 
     pub fn define(&mut self, name: &str, kind: &str, value: &str) {
         self.0 += &format!("\n{name} : {kind}\n{name} = {value}\n");
-    }
-
-    /// The theorem that building list `number` gives this as the most codes waiting at once.
-    pub fn say_most_waiting(&mut self, number: u64, defined: [&str; 2], most: usize) {
-        let [lent, file] = defined;
-        let name = format!("list{number}-waits");
-        self.0 += &format!(
-            "\n{name} : every (isTrue {lent} {file}) (\n    waits {most}\n    ∷ []) ≡ true\n"
-        );
-        self.0 += &format!("unfolding {lent} {file} isTrue computing\n{name} = refl\n");
     }
 
     /// Theorems that all these trials of list `number` hold, which name what is defined.
