@@ -29,6 +29,7 @@ pub(crate) fn arrange_codes(
     let mut edges = [0u16; MOST_NAMED];
     let mut degrees = [0u16; MOST_VERTICES];
     let mut sums = [0u32; MOST_VERTICES];
+    // the removal list and, behind it, the waiting queue: 1,024 places, one for each code, since no code waits twice
     let mut order = [0u16; MOST_CODES];
     name_edges(run, ends, r, v, weights, &mut edges);
     arrange(

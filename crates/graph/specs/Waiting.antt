@@ -1,7 +1,7 @@
 -- The most edges that wait at once: document 02, request b. Assumes nothing.
 use mathlib.Core.Path.{_≡_}
 use mathlib.Core.List.{List, [], _∷_, _++_}
-use Prim.Native.Nat.{ℕ, zero, suc}
+use Prim.Native.Nat.{ℕ, zero, suc, _≤_}
 use lib.ListN.{length}
 use Rattle.counting.specs.Larger.{larger}
 use Rattle.graph.specs.Graph.{Graph}
@@ -26,3 +26,8 @@ module _ (G : Graph) where
   -- at some moment of the run so many wait
   abbrev pub SoManyWait : ℕ → Type 0
   SoManyWait many = (removed : List ℕ) × (waiting : List ℕ) × Reached G removed waiting × (length waiting ≡ many)
+
+  -- a count that is kept from step to step has come to `most`, with k steps to go
+  pub record Counted (k : ℕ) (removed waiting : List ℕ) (most : ℕ) : Type 0 where
+    pub now : length waiting ≤ most
+    pub rest : larger most (mostFrom k removed waiting) ≡ mostWaiting

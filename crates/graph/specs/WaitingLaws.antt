@@ -1,5 +1,5 @@
 -- The most edges that wait at once: no moment of the run has more, some moment has as many, and a count that is kept from step to step comes to it. Assumes nothing.
-use mathlib.Core.Path.{_≡_, refl, sym, ap, _∙_}
+use mathlib.Core.Path.{_≡_, refl, sym, _∙_}
 use mathlib.Core.Logic.{⊎-elim}
 use mathlib.Core.List.{List, [], _∷_, _++_}
 use Prim.Native.Nat.{ℕ, zero, suc, _+_, _-_, _≤_}
@@ -10,7 +10,7 @@ use Rattle.counting.specs.LargerLaws.{larger-first, larger-second, larger-eithe
 use Rattle.graph.specs.Graph.{Graph}
 use Rattle.graph.specs.Peeling.{firstWaiting, followAll}
 use Rattle.graph.specs.Run.{Reached, start, step}
-use Rattle.graph.specs.Waiting.{mostFrom, mostWaiting, SoManyWait}
+use Rattle.graph.specs.Waiting.{mostFrom, mostWaiting, SoManyWait, Counted}
 use Rattle.graph.specs.PeelingLaws.{reached-room}
 
 module _ (G : Graph) where
@@ -64,22 +64,18 @@ module _ (G : Graph) where
   pub most-edges : mostWaiting G ≤ edges
   most-edges = omega (arith, most-attained .3, reached-room G (most-attained .2))
 
-  -- ---- a count that is kept from step to step: what was counted so far, with k steps to come
+  -- ---- a count that is kept from step to step
 
-  pub record Counted (k : ℕ) (removed waiting : List ℕ) (most : ℕ) : Type 0 where
-    pub now : length waiting ≤ most
-    pub rest : larger most (mostFrom G k removed waiting) ≡ mostWaiting G
-
-  pub counted-start : Counted edges [] (firstWaiting G) (length (firstWaiting G))
+  pub counted-start : Counted G edges [] (firstWaiting G) (length (firstWaiting G))
   unfolding mostWaiting
   counted-start = record { now = omega arith; rest = larger-second _ _ (from-now edges [] (firstWaiting G)) }
 
-  pub counted-step : {k : ℕ} {removed : List ℕ} {front : ℕ} {waiting : List ℕ} {most : ℕ} → Counted (suc k) removed (front ∷ waiting) most → let waiting′ = followAll G (removed ++ front ∷ []) front arity waiting in Counted k (removed ++ front ∷ []) waiting′ (larger most (length waiting′))
+  pub counted-step : {k : ℕ} {removed : List ℕ} {front : ℕ} {waiting : List ℕ} {most : ℕ} → Counted G (suc k) removed (front ∷ waiting) most → let waiting′ = followAll G (removed ++ front ∷ []) front arity waiting in Counted G k (removed ++ front ∷ []) waiting′ (larger most (length waiting′))
   unfolding mostFrom
   counted-step {k} {removed} {front} {waiting} {most} c =
       let removed′ = removed ++ front ∷ [] in
       let waiting′ = followAll G removed′ front arity waiting in
       record { now = larger-both most (length waiting′) .1; rest = larger-of-two most _ _ _ (from-now k removed′ waiting′) (c .now) ∙ c .rest }
 
-  pub counted-end : {k : ℕ} {removed : List ℕ} {most : ℕ} → Counted k removed [] most → most ≡ mostWaiting G
+  pub counted-end : {k : ℕ} {removed : List ℕ} {most : ℕ} → Counted G k removed [] most → most ≡ mostWaiting G
   counted-end {k} {removed} {most} c = sym (larger-first most _ (omega (arith, from-none k removed))) ∙ c .rest

@@ -15,7 +15,6 @@ use Rattle.graph.specs.RankLaws.{below-equal}
 use Rattle.graph.specs.PeelingLaws.{removed-degree}
 use Rattle.graph.specs.LandingLaws.{landing-inside, landing-assigned, assigned-landing, assigned-number}
 use Rattle.graph.specs.LineLaws.{edge-line}
-use Rattle.counting.specs.Holds.{Holds}
 use Rattle.removal.specs.Arrays.{graphIn, Held, Wide}
 use Rattle.counting.specs.HoldsLaws.{holds-front}
 use Rattle.removal.specs.Queue.{Removed}

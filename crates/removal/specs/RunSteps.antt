@@ -1,17 +1,18 @@
 -- The whole run of the peeling, over the arrays: its start, the count from step to step, and its end. Assumes nothing.
 -- D, C, M and O stand for the arrays of degrees, index sums, marks and order; a prime marks what has become of one.
-use mathlib.Core.Path.{_≡_, refl, sym, ap, _∙_}
+use mathlib.Core.Path.{_≡_, sym, ap, _∙_}
 use mathlib.Core.List.{List, []}
 use Prim.Native.Nat.{ℕ, suc, _+_, _-_, _≤_, _<_}
 use native.Mathlib.Omega.{arith}
-use lib.ListN.{length, take, drop, length-take, length-drop, drop-of-length-le}
+use lib.ListN.{length, take, length-take, length-drop, drop-of-length-le}
 use lib.Seq.{length-take-le}
 use Rattle.counting.specs.Larger.{larger}
 use Rattle.graph.specs.Graph.{Graph}
-use Rattle.graph.specs.Peeling.{unremoved, firstWaiting, removalList, numberLeft}
+use Rattle.graph.specs.Peeling.{unremoved, firstWaiting, removalList}
 use Rattle.graph.specs.Run.{start}
 use Rattle.graph.specs.PeelingLaws.{peel-none, reached-removal, left-and-removed}
-use Rattle.graph.specs.WaitingLaws.{Counted, counted-start, counted-step, counted-end}
+use Rattle.graph.specs.Waiting.{Counted}
+use Rattle.graph.specs.WaitingLaws.{counted-start, counted-step, counted-end}
 use Rattle.removal.specs.Arrays.{graphIn, Held, Wide, Tallied}
 use Rattle.removal.specs.Queue.{removedOf, waitingOf, Queued, Going, Starts, Stepped, Removed}
 use Rattle.removal.specs.PeelSteps.{front, removed-more}

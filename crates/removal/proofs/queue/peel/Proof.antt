@@ -4,7 +4,6 @@ use Prim.Native.Nat.{_-_}
 use native.Mathlib.Omega.{arith}
 use borrow.Author.Needs.{needs}
 use lib.ListN.{length}
-use Rattle.removal.specs.Queue.{Going}
 use Rattle.removal.specs.RunSteps.{Running, running-start, running-step, running-end}
 use Rattle.removal.proofs.queue.peel.Statement.{statement}
 use Rattle.removal.proofs.queue.peel.Tie as tie
