@@ -69,6 +69,47 @@ unsafe extern "C" {
     ) -> DsAsked;
 }
 
+/// A call that builds: run, ends, r, v, weights and buffer, each slice as a pointer and a length.
+type Building<Answer> = unsafe extern "C" fn(
+    *const u8,
+    usize,
+    *const u16,
+    usize,
+    usize,
+    usize,
+    *const u16,
+    usize,
+    *mut u8,
+    usize,
+) -> Answer;
+
+/// Makes one of the two calls that build.
+fn build_by<Answer>(
+    call: Building<Answer>,
+    list: &CodeList,
+    r: usize,
+    v: usize,
+    weights: &[u16],
+    buffer: &mut [u8],
+) -> Answer {
+    // SAFETY: each pointer and length are those of a slice, so that it is valid, aligned and not null. The
+    // buffer is lent to this call alone, so that it overlaps none of the others.
+    unsafe {
+        call(
+            list.run.as_ptr(),
+            list.run.len(),
+            list.ends.as_ptr(),
+            list.ends.len(),
+            r,
+            v,
+            weights.as_ptr(),
+            weights.len(),
+            buffer.as_mut_ptr(),
+            buffer.len(),
+        )
+    }
+}
+
 /// The library that is linked.
 pub struct Library;
 
@@ -85,22 +126,7 @@ impl Calls for Library {
         weights: &[u16],
         buffer: &mut [u8],
     ) -> DsAnswer {
-        // SAFETY: each pointer and length are those of a slice, so that it is valid, aligned and not null. The
-        // buffer is lent to this call alone, so that it overlaps none of the others.
-        unsafe {
-            ds_build(
-                list.run.as_ptr(),
-                list.run.len(),
-                list.ends.as_ptr(),
-                list.ends.len(),
-                r,
-                v,
-                weights.as_ptr(),
-                weights.len(),
-                buffer.as_mut_ptr(),
-                buffer.len(),
-            )
-        }
+        build_by(ds_build, list, r, v, weights, buffer)
     }
 
     fn build_counted(
@@ -111,21 +137,7 @@ impl Calls for Library {
         weights: &[u16],
         buffer: &mut [u8],
     ) -> DsCounted {
-        // SAFETY: as for `build`, whose parameters these are.
-        unsafe {
-            ds_build_counted(
-                list.run.as_ptr(),
-                list.run.len(),
-                list.ends.as_ptr(),
-                list.ends.len(),
-                r,
-                v,
-                weights.as_ptr(),
-                weights.len(),
-                buffer.as_mut_ptr(),
-                buffer.len(),
-            )
-        }
+        build_by(ds_build_counted, list, r, v, weights, buffer)
     }
 
     fn open(&self, file: &[u8]) -> DsOpened {
