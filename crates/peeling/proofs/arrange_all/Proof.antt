@@ -2,6 +2,7 @@
 use mathlib.Core.Path.{_≡_, _∙_}
 use mathlib.Core.List.{List}
 use Prim.Native.Nat.{ℕ}
+use native.Mathlib.Omega.{arith}
 use lib.ListN.{length}
 use Rattle.peeling.specs.Assigning.{AllRemoved}
 use Rattle.peeling.specs.ArrangingLaws.{removed-every}
@@ -45,7 +46,7 @@ give-lines-requires c κs =
     let t = c .before .before .before .before .before .before in
     let d = then t in
     let p = s d .pre .0 in
-    rw (kept-order d, kept-degrees d) (all d (t .if1 .taken), (p .forRank, d .remove-all .kept .1 .1 .1 .1 .0 ∙ p .forKeys))
+    rw (kept-order d, kept-degrees d) (all d (omega (arith, t .if1 .taken)), (p .forRank, d .remove-all .kept .1 .1 .1 .1 .0 ∙ p .forKeys))
 
 -- once the lines are given
 abbrev lined : tie.After-slice-known15 → tie.After-give-lines

@@ -46,7 +46,7 @@ write-requires c κs =
     let r = t .before .before .before .before .before in
     let p = start r .pre in
     let k = r .arrange-codes .kept in
-    let none : r .arrange-codes .result .left ≡ 0 = t .if1 .taken in
+    let none : r .arrange-codes .result .left ≡ 0 = omega (arith, t .if1 .taken) in
     record {
       within = p;
       nothing = sym (left-is r) ∙ none;
@@ -64,7 +64,7 @@ returns c =
     let w = c .before .before in
     let t = w .before .before .before .before .before in
     let r = t .before .before .before .before .before in
-    let none : r .arrange-codes .result .left ≡ 0 = t .if1 .taken in
+    let none : r .arrange-codes .result .left ≡ 0 = omega (arith, t .if1 .taken) in
     let d = graph-done (lentAt r) (sym (left-is r) ∙ none) _ (r .arrange-codes .ensures (start r .args .buffer .now) .isMost) in
     (d .0, w .write .ensures ∙ d .1)
 
