@@ -95,7 +95,7 @@ module _ (I : Lent) where
   pub no-code-waits-twice : (k : ℕ) → occurrences k (everWaiting (graph HD I)) ≤ 1
   no-code-waits-twice = ever-waiting-once (graph HD I)
 
-  -- so where the codes of the list are different, all that ever enter it are, in whatever order they do
+  -- so where the codes of the list are different, no two of all that ever enter it are equal
   pub all-that-ever-wait-are-different : Different HD I → (i k : ℕ) → i < k → k < length (everWaiting (graph HD I)) → codeOf HD I (getD (everWaiting (graph HD I)) i 0) ≢ codeOf HD I (getD (everWaiting (graph HD I)) k 0)
   all-that-ever-wait-are-different = waiting-different HD I
 

@@ -40,18 +40,18 @@ pub record Ready (n r m : ℕ) (edges degrees sums queued order removed waiting 
   pub tallied : Tallied (graphIn n r m edges) (unremoved removed) degrees sums
   pub marks : Marked n removed waiting queued
 
--- between two steps
+-- between two steps of the run
 pub record Going (n r m : ℕ) (edges degrees sums queued order : List ℕ) (head tail : ℕ) : Type 0 where
   pub low : head ≤ tail
   pub high : tail ≤ n
   pub ready : Ready n r m edges degrees sums queued order (removedOf order head) (waitingOf order head tail)
 
--- from the one to the other: the front edge is removed, and those that follow it have joined
+-- what a step makes of the two lists: the front edge is removed, and those that follow it have joined
 pub record Stepped (G : Graph) (order : List ℕ) (head tail : ℕ) (order′ : List ℕ) (tail′ : ℕ) : Type 0 where
   pub removed : removedOf order′ (head + 1) ≡ removedOf order (head + 1)
   pub waiting : waitingOf order′ (head + 1) tail′ ≡ followAll G (removedOf order (head + 1)) (getD order head 0) (G .arity) (waitingOf order (head + 1) tail)
 
--- the arrays at its start: the first queue waits
+-- the arrays at the start of the run: the first queue waits
 pub record Starts (n r m : ℕ) (edges degrees sums queued order : List ℕ) (tail : ℕ) : Type 0 where
   pub high : tail ≤ n
   pub ready : Ready n r m edges degrees sums queued order [] (take tail order)
