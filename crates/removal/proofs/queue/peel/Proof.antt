@@ -28,6 +28,13 @@ turn c = c .before .before .before .before .before
 loop-holds : tie.Need-loop-holds Inv-loop μ-loop
 loop-holds c = running-start (c .before .before .before .before .before .pre)
 
+loop-again : tie.Need-loop-again Inv-loop μ-loop
+loop-again c =
+    let f = removed (c .before) in
+    let i = turn f .before .loop .inv in
+    let e = rw (i .going .ready .forOrder, i .going .ready .wide .forDegrees) at (f .remove-front .ensures) in
+    rw (c .larger .ensures) (running-step i (turn f .loop-test .taken) (e .0) (e .1))
+
 remove-front-requires : tie.Need-remove-front-requires Inv-loop μ-loop
 remove-front-requires c κs =
     let l = c .before .before .before .before in
@@ -38,20 +45,13 @@ add-head : tie.Need-add-head Inv-loop μ-loop
 add-head c = let l = turn (removed c) in omega (arith, l .loop-test .taken, l .before .loop .inv .going .high, start (l .before) .good)
 
 sub-larger : tie.Need-sub-larger Inv-loop μ-loop
-sub-larger c = removed c .remove-front .ensures .0 .low
+sub-larger c = omega (arith, turn (removed c) .loop-test .taken, removed c .remove-front .ensures .0 .low)
 
 larger-requires : tie.Need-larger-requires Inv-loop μ-loop
 larger-requires c κs = search needs
 
 loop-less : tie.Need-loop-less Inv-loop μ-loop
 loop-less c = let l = turn (removed (c .before)) in omega (arith, l .loop-test .taken, l .before .loop .inv .going .high)
-
-loop-again : tie.Need-loop-again Inv-loop μ-loop
-loop-again c =
-    let f = removed (c .before) in
-    let i = turn f .before .loop .inv in
-    let e = rw (i .going .ready .forOrder, i .going .ready .wide .forDegrees) at (f .remove-front .ensures) in
-    rw (c .larger .ensures) (running-step i (turn f .loop-test .taken) (e .0) (e .1))
 
 sub-left : tie.Need-sub-left Inv-loop μ-loop
 sub-left c = let g = c .before .loop .inv .going in omega (arith, g .low, g .high, g .ready .forOrder)
