@@ -2,7 +2,7 @@
 use mathlib.Core.Path.{_≡_}
 use mathlib.Core.Logic.{_≢_, _↔_}
 use mathlib.Core.Bool.{false}
-use mathlib.Core.List.{List}
+use mathlib.Core.List.{List, _++_}
 use Prim.Native.Nat.{ℕ, _≤_, _<_}
 use native.Mathlib.Omega.{arith}
 use lib.ListN.{length, getD}
@@ -10,7 +10,7 @@ use Rattle.counting.specs.Below.{any}
 use Rattle.counting.specs.Lists.{occurrences}
 use Rattle.graph.specs.Run.{Reached, everWaiting}
 use Rattle.graph.specs.Waiting.{mostWaiting, SoManyWait}
-use Rattle.graph.specs.PeelingLaws.{ever-waiting-once}
+use Rattle.graph.specs.PeelingLaws.{ever-waiting-begins, ever-waiting-once}
 use Rattle.graph.specs.WaitingLaws.{most-bound, most-attained, most-edges}
 use Rattle.directory.specs.declared.Built.the-variants.{Done, Refused}
 use Rattle.directory.specs.Codes.{repeated}
@@ -91,7 +91,11 @@ module _ (I : Lent) where
 
   -- ---- the waiting queue: document 02, request b
 
-  -- over the whole build no code of the list enters the queue twice
+  -- after the start and after each peeling step, the removed and then the waiting are the beginning of all that ever enter the queue
+  pub what-waits-has-entered-the-queue : {removed waiting : List ℕ} → Reached (graph HD I) removed waiting → (later : List ℕ) × (everWaiting (graph HD I) ≡ removed ++ waiting ++ later)
+  what-waits-has-entered-the-queue = ever-waiting-begins (graph HD I)
+
+  -- and over the whole build no code of the list enters it twice
   pub no-code-waits-twice : (k : ℕ) → occurrences k (everWaiting (graph HD I)) ≤ 1
   no-code-waits-twice = ever-waiting-once (graph HD I)
 

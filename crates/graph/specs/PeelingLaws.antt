@@ -165,6 +165,12 @@ module _ (G : Graph) where
   unfolding everWaiting removalList
   ever-waiting-removed = joining-peel edges [] (firstWaiting G) (omega arith) (start-peeled .sound)
 
+  -- at each moment it begins with what is removed, and then what waits
+  pub ever-waiting-begins : {removed waiting : List ℕ} → Reached G removed waiting → (later : List ℕ) × (everWaiting G ≡ removed ++ waiting ++ later)
+  ever-waiting-begins {removed} {waiting} r =
+      let enough : edges ≤ length removed + edges = omega arith in
+      (joining G edges removed waiting, ever-waiting-removed ∙ sym (reached-removal r edges enough) ∙ sym (joining-peel edges removed waiting enough (reached-peeled r .sound)))
+
   -- no edge enters the queue twice in the whole run
   pub ever-waiting-once : (e : ℕ) → occurrences e (everWaiting G) ≤ 1
   ever-waiting-once e = rw ever-waiting-removed (removal-once e)

@@ -2,7 +2,7 @@
 use mathlib.Core.Path.{_≡_}
 use mathlib.Core.Logic.{_≢_, _↔_}
 use mathlib.Core.Bool.{Bool, true, false}
-use mathlib.Core.List.{List}
+use mathlib.Core.List.{List, _++_}
 use Prim.Native.Nat.{ℕ, _+_, _≤_, _<_}
 use lib.ListN.{length, drop}
 use Rattle.counting.specs.Lists.{occurrences}
@@ -14,7 +14,7 @@ use Rattle.graph.specs.Waiting.{mostWaiting, SoManyWait}
 use Rattle.graph.specs.Within.{Within}
 use Rattle.graph.specs.Agree.{Agree}
 use Rattle.graph.specs.Assignment.{assigned, assignedBelow, assign, values, landingVertex, line, edgeOfLine}
-use Rattle.graph.specs.PeelingLaws.{reached-once, reached-room, reached-removal, ever-waiting-removed, ever-waiting-once, ever-waiting-most, left-and-removed}
+use Rattle.graph.specs.PeelingLaws.{reached-once, reached-room, reached-removal, ever-waiting-removed, ever-waiting-begins, ever-waiting-once, ever-waiting-most, left-and-removed}
 use Rattle.graph.specs.WaitingLaws.{most-bound, most-attained, most-edges}
 use Rattle.graph.specs.GroupLaws.{left-group, group-left, refused-exactly, largest-bound, largest-attained, twins-left}
 use Rattle.graph.specs.AssignmentLaws.{values-most, drop-unassigned}
@@ -69,6 +69,10 @@ module _ (G : Graph) where
   -- the removal list is all that ever waited, in the order in which it joined the queue
   pub all-that-ever-waited-is-removed : everWaiting G ≡ removalList G
   all-that-ever-waited-is-removed = ever-waiting-removed G
+
+  -- at each moment the removed and then the waiting are the beginning of all that ever waited
+  pub what-waits-has-entered-the-queue : {removed waiting : List ℕ} → Reached G removed waiting → (later : List ℕ) × (everWaiting G ≡ removed ++ waiting ++ later)
+  what-waits-has-entered-the-queue = ever-waiting-begins G
 
   -- in the whole run no edge enters the queue twice
   pub no-edge-enters-the-queue-twice : (e : ℕ) → occurrences e (everWaiting G) ≤ 1
