@@ -1,16 +1,6 @@
-pub mod TestLaws
 pub mod Below
-pub mod BelowLaws
-pub mod CountLaws
-pub mod SearchLaws
 pub mod Lists
-pub mod ListsLaws
-pub mod EachLaws
-pub mod OccurrenceLaws
 pub mod Larger
-pub mod LargerLaws
 pub mod Widths
 pub mod Holds
-pub mod HoldsLaws
 pub mod Wrote
-pub mod WroteLaws

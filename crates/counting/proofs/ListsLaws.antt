@@ -1,10 +1,10 @@
 -- What the tests on lists tell: `every` of each element, `same` of the two lists. Assumes nothing.
 use Rattle.std.specs.Prelude.{◌≡◌, refl, ◌≢◌, Bool, true, false, not, List, [], ◌∷◌, ℕ, zero, suc, ◌<◌, eqb, length, get_or}
 use Rattle.std.proofs.Common.{sym, ap, ◌∙◌, ⊎_elim, arith, ext_get_or, eqb-true, eq-eqb, ne_eqb}
-use Rattle.counting.specs.TestLaws.{eq?, clash, and_left, and_right}
+use Rattle.counting.proofs.TestLaws.{eq?, clash, and_left, and_right}
 use Rattle.counting.specs.Below.{bit, count}
-use Rattle.counting.specs.BelowLaws.{sum-zero}
-use Rattle.counting.specs.CountLaws.{count_has}
+use Rattle.counting.proofs.BelowLaws.{sum-zero}
+use Rattle.counting.proofs.CountLaws.{count_has}
 use Rattle.counting.specs.Lists.{same, every}
 
 pub every_passes : {A : Type 0} (test : A → Bool) (l : List A) → every test l ≡ true → (i : ℕ) (d : A) → i < length l → test (get_or l i d) ≡ true

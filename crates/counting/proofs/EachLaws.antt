@@ -2,7 +2,7 @@
 use Rattle.std.specs.Prelude.{◌≡◌, refl, ◌≢◌, List, ℕ, zero, suc, ◌+◌, ◌*◌, ◌<◌, length, get_or}
 use Rattle.std.proofs.Common.{sym, ◌∙◌, ⊎_elim, mul-zero, mul-suc, mul-le-mul_left, arith, length-append, get_or-append-add}
 use Rattle.std.proofs.Math.ListN.{get_or-append}
-use Rattle.counting.specs.TestLaws.{eq?}
+use Rattle.counting.proofs.TestLaws.{eq?}
 use Rattle.counting.specs.Lists.{each}
 
 pub each_equal : (k : ℕ) (f g : ℕ → List ℕ) → ((i : ℕ) → i < k → f i ≡ g i) → each k f ≡ each k g

@@ -1,7 +1,7 @@
 -- The larger of two numbers is one of the two, and below neither. Assumes nothing.
 use Rattle.std.specs.Prelude.{◌≡◌, ◌⊎◌, ℕ, ◌≤◌, ◌<◌}
 use Rattle.std.proofs.Common.{sym, ◌∙◌, inl, inr, ⊎_elim, arith, lt-ltb, le-ltb}
-use Rattle.counting.specs.TestLaws.{lt?}
+use Rattle.counting.proofs.TestLaws.{lt?}
 use Rattle.counting.specs.Larger.{larger}
 
 pub larger-first : (a b : ℕ) → b ≤ a → larger a b ≡ a

@@ -1,9 +1,9 @@
 -- Laws of the searches `any` and `lowest`. Assumes nothing.
 use Rattle.std.specs.Prelude.{◌≡◌, refl, ◌≢◌, Bool, true, false, ◌||◌, cond, ℕ, zero, suc, ◌+◌, ◌≤◌, ◌<◌, ltb}
 use Rattle.std.proofs.Common.{sym, ap, ◌∙◌, ⊎_elim, arith, ltb-true, ltb-false, lt-ltb, le-ltb}
-use Rattle.counting.specs.TestLaws.{eq?, lt?, clash, never_true, or_second}
+use Rattle.counting.proofs.TestLaws.{eq?, lt?, clash, never_true, or_second}
 use Rattle.counting.specs.Below.{sum, bit, count, any, lowest}
-use Rattle.counting.specs.CountLaws.{count-one}
+use Rattle.counting.proofs.CountLaws.{count-one}
 
 pub any_has : (k : ℕ) (p : ℕ → Bool) (i : ℕ) → i < k → p i ≡ true → any k p ≡ true
 unfolding any

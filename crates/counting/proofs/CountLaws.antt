@@ -1,9 +1,9 @@
 -- Laws of counts, the sums of the bits of a test. Assumes nothing.
 use Rattle.std.specs.Prelude.{◌≡◌, refl, ◌⊎◌, ◌≢◌, Bool, true, false, ◌&&◌, not, ℕ, zero, suc, ◌+◌, ◌*◌, ◌≤◌, ◌<◌, eqb}
 use Rattle.std.proofs.Common.{ap, ◌∙◌, inl, inr, ⊎_elim, zero-le, arith, eq-eqb, ne_eqb}
-use Rattle.counting.specs.TestLaws.{eq?, lt?, and_both, and_true, and_false}
+use Rattle.counting.proofs.TestLaws.{eq?, lt?, and_both, and_true, and_false}
 use Rattle.counting.specs.Below.{sum, bit, count}
-use Rattle.counting.specs.BelowLaws.{sum-next, sum_mono, sum_constant, sum-zero, sum_up_to, sum-part, sum-two, sum_but}
+use Rattle.counting.proofs.BelowLaws.{sum-next, sum_mono, sum_constant, sum-zero, sum_up_to, sum-part, sum-two, sum_but}
 
 -- ---- bits
 

@@ -2,7 +2,7 @@
 use Rattle.std.specs.Prelude.{◌≡◌, refl, ◌≢◌, ℕ, zero, suc, ◌+◌, ◌*◌, ◌%◌, ◌≤◌, ◌<◌}
 use Rattle.std.proofs.Common.{sym, ap, ◌∙◌, ⊎_elim, zero-le, add-zero, add-suc, mul-zero, mul-suc, mul_comm, add-one, arith}
 use Rattle.std.proofs.Math.Nat.{add-mod}
-use Rattle.counting.specs.TestLaws.{eq?}
+use Rattle.counting.proofs.TestLaws.{eq?}
 use Rattle.counting.specs.Below.{sum}
 
 -- ---- one term after the other, as a loop adds them

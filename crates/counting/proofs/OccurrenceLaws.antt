@@ -1,10 +1,10 @@
 -- Laws of `occurrences`, how often a number stands in a list, and of the list `those`. Assumes nothing.
 use Rattle.std.specs.Prelude.{◌≡◌, refl, ◌⊎◌, ◌≢◌, Bool, true, false, ◌&&◌, cond, List, [], ◌∷◌, ◌++◌, ℕ, zero, suc, ◌+◌, ◌≤◌, ◌<◌, eqb, length, get_or}
 use Rattle.std.proofs.Common.{ap, ◌∙◌, inl, inr, ⊎_elim, arith, eq-eqb, ne_eqb}
-use Rattle.counting.specs.TestLaws.{eq?, and_true, and_false}
+use Rattle.counting.proofs.TestLaws.{eq?, and_true, and_false}
 use Rattle.counting.specs.Below.{sum, bit, those}
-use Rattle.counting.specs.BelowLaws.{sum_mono, sum_constant, sum-zero, sum-add}
-use Rattle.counting.specs.CountLaws.{bit_self, bit-other, count_equal}
+use Rattle.counting.proofs.BelowLaws.{sum_mono, sum_constant, sum-zero, sum-add}
+use Rattle.counting.proofs.CountLaws.{bit_self, bit-other, count_equal}
 use Rattle.counting.specs.Lists.{occurrences}
 
 pub occurrences-append : (x : ℕ) (s t : List ℕ) → occurrences x (s ++ t) ≡ occurrences x s + occurrences x t

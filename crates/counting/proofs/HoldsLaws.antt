@@ -2,7 +2,7 @@
 use Rattle.std.specs.Prelude.{◌≡◌, ◌≢◌, List, ◌++◌, ℕ, ◌+◌, ◌≤◌, ◌<◌, length, get_or, set, take}
 use Rattle.std.proofs.Common.{sym, ap, ◌∙◌, ⊎_elim, arith, get_or-set_same, get_or-set_other, get_or-take}
 use Rattle.std.proofs.Math.ListN.{get_or-append}
-use Rattle.counting.specs.TestLaws.{eq?}
+use Rattle.counting.proofs.TestLaws.{eq?}
 use Rattle.counting.specs.Holds.{Holds}
 
 pub holds_none : (f : ℕ → ℕ) (array : List ℕ) → Holds 0 f array

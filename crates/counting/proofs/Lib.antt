@@ -1,0 +1,10 @@
+pub mod TestLaws
+pub mod BelowLaws
+pub mod CountLaws
+pub mod SearchLaws
+pub mod ListsLaws
+pub mod EachLaws
+pub mod OccurrenceLaws
+pub mod LargerLaws
+pub mod HoldsLaws
+pub mod WroteLaws
