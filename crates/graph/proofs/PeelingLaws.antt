@@ -10,19 +10,19 @@ use Rattle.std.proofs.Math.Dec.{eqb}
 use Rattle.std.proofs.Math.ListN.{length, drop, length-append}
 use Rattle.std.proofs.Math.Seq.{drop-append_seam}
 use borrow.Author.Tests.{eqb-true, eq-eqb}
-use Rattle.counting.specs.TestLaws.{eq?, lt?}
+use Rattle.counting.proofs.TestLaws.{eq?, lt?}
 use Rattle.counting.specs.Below.{sum, bit, any}
-use Rattle.counting.specs.BelowLaws.{sum_equal, sum-add, sum_constant}
-use Rattle.counting.specs.CountLaws.{bit_true, bit_most, bit_self, count_has}
-use Rattle.counting.specs.SearchLaws.{any_has, any_some}
+use Rattle.counting.proofs.BelowLaws.{sum_equal, sum-add, sum_constant}
+use Rattle.counting.proofs.CountLaws.{bit_true, bit_most, bit_self, count_has}
+use Rattle.counting.proofs.SearchLaws.{any_has, any_some}
 use Rattle.counting.specs.Lists.{occurrences}
-use Rattle.counting.specs.OccurrenceLaws.{occurrences_back, occurrences-length, those_past, those_once}
+use Rattle.counting.proofs.OccurrenceLaws.{occurrences_back, occurrences-length, those_past, those_once}
 use Rattle.graph.specs.Graph.{Graph, names}
 use Rattle.graph.specs.Peeling.{unremoved, degree, first_waiting, follow_all, peel, removal_list, left_over, number_left}
 use Rattle.graph.specs.Run.{Reached, start, step, joining, ever_waiting}
 use Rattle.graph.specs.Moment.{Sound, Complete, Peeled}
-use Rattle.graph.specs.DegreeLaws.{absent_unremoved, unremoved-before, names_at, names_some, degree_mono, degree-size, removed_one_more, degree_more}
-use Rattle.graph.specs.QueueLaws.{sound_room, follow_all_sound, follow_all_grows, follow_all_in, follow_all_back}
+use Rattle.graph.proofs.DegreeLaws.{absent_unremoved, unremoved-before, names_at, names_some, degree_mono, degree-size, removed_one_more, degree_more}
+use Rattle.graph.proofs.QueueLaws.{sound_room, follow_all_sound, follow_all_grows, follow_all_in, follow_all_back}
 
 module _ (G : Graph) where
   open G use {edges, arity, vertex_of}

@@ -9,14 +9,14 @@ use Rattle.graph.specs.Waiting.{most_waiting, SoManyWait}
 use Rattle.graph.specs.Within.{Within}
 use Rattle.graph.specs.Agree.{Agree}
 use Rattle.graph.specs.Assignment.{assigned, assigned_below, assign, values, landing_vertex, line, edge_of_line}
-use Rattle.graph.specs.PeelingLaws.{reached_once, reached_room, reached_removal, ever_waiting_removed, ever_waiting_begins, ever_waiting_once, ever_waiting_most, left-and_removed}
-use Rattle.graph.specs.WaitingLaws.{most_bound, most_attained, most_edges}
-use Rattle.graph.specs.GroupLaws.{left_group, group_left, refused_exactly, largest_bound, largest_attained, twins_left}
-use Rattle.graph.specs.AssignmentLaws.{values_most, drop-unassigned}
-use Rattle.graph.specs.LandingLaws.{landing_inside, landing-assigned, landing_own, assigned_exactly, assigned-number}
-use Rattle.graph.specs.LineLaws.{line-below, line_own, line_onto, edge_line, line_edge}
-use Rattle.graph.specs.WithinLaws.{within_left, within_number, within_none, same_number, same_left}
-use Rattle.graph.specs.AgreeLaws.{agree_left, agree_number, agree_most, agree_values, agree_line, agree_edge}
+use Rattle.graph.proofs.PeelingLaws.{reached_once, reached_room, reached_removal, ever_waiting_removed, ever_waiting_begins, ever_waiting_once, ever_waiting_most, left-and_removed}
+use Rattle.graph.proofs.WaitingLaws.{most_bound, most_attained, most_edges}
+use Rattle.graph.proofs.GroupLaws.{left_group, group_left, refused_exactly, largest_bound, largest_attained, twins_left}
+use Rattle.graph.proofs.AssignmentLaws.{values_most, drop-unassigned}
+use Rattle.graph.proofs.LandingLaws.{landing_inside, landing-assigned, landing_own, assigned_exactly, assigned-number}
+use Rattle.graph.proofs.LineLaws.{line-below, line_own, line_onto, edge_line, line_edge}
+use Rattle.graph.proofs.WithinLaws.{within_left, within_number, within_none, same_number, same_left}
+use Rattle.graph.proofs.AgreeLaws.{agree_left, agree_number, agree_most, agree_values, agree_line, agree_edge}
 
 module _ (G : Graph) where
   open G use {edges, arity, vertices, vertex_of}

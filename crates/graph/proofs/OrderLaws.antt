@@ -2,16 +2,16 @@
 use Rattle.std.specs.Prelude.{◌≡◌, refl, false, List, [], ◌∷◌, ◌++◌, ℕ, zero, suc, ◌+◌, ◌≤◌, ◌<◌, eqb, length, drop, get_or}
 use Rattle.std.proofs.Common.{sym, ◌∙◌, append_assoc, append-nil, arith}
 use Rattle.std.proofs.Math.Path.{ap}
-use Rattle.counting.specs.TestLaws.{never_true}
+use Rattle.counting.proofs.TestLaws.{never_true}
 use Rattle.counting.specs.Below.{bit}
-use Rattle.counting.specs.CountLaws.{bit_self}
+use Rattle.counting.proofs.CountLaws.{bit_self}
 use Rattle.counting.specs.Lists.{occurrences}
-use Rattle.counting.specs.OccurrenceLaws.{occurrences-append, occurrences_back}
+use Rattle.counting.proofs.OccurrenceLaws.{occurrences-append, occurrences_back}
 use Rattle.graph.specs.Graph.{Graph, names}
 use Rattle.graph.specs.Peeling.{unremoved, removal_list}
 use Rattle.graph.specs.Run.{Reached, start, step}
-use Rattle.graph.specs.DegreeLaws.{absent_unremoved, names_at, degree-one}
-use Rattle.graph.specs.PeelingLaws.{front_edge, front_absent, reached_peeled, removal_reached, removal_once, removal_edges}
+use Rattle.graph.proofs.DegreeLaws.{absent_unremoved, names_at, degree-one}
+use Rattle.graph.proofs.PeelingLaws.{front_edge, front_absent, reached_peeled, removal_reached, removal_once, removal_edges}
 
 -- vertex number `place` of edge e is named by none of the later edges
 pub record Leads (G : Graph) (e : ℕ) (later : List ℕ) : Type 0 where

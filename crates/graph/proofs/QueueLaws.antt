@@ -9,16 +9,16 @@ use Prim.Native.Nat.{ℕ, zero, suc, ◌+◌, ◌≤◌, ◌<◌}
 use native.Mathlib.Omega.{arith}
 use Rattle.std.proofs.Math.Dec.{eqb}
 use borrow.Author.Tests.{eqb-true, eqb-false, eq-eqb}
-use Rattle.counting.specs.TestLaws.{eq?, and_both, and_left, and_right}
+use Rattle.counting.proofs.TestLaws.{eq?, and_both, and_left, and_right}
 use Rattle.counting.specs.Below.{bit}
-use Rattle.counting.specs.CountLaws.{bit_self, bit-other, count_some}
-use Rattle.counting.specs.SearchLaws.{lowest_some, lowest-one}
+use Rattle.counting.proofs.CountLaws.{bit_self, bit-other, count_some}
+use Rattle.counting.proofs.SearchLaws.{lowest_some, lowest-one}
 use Rattle.counting.specs.Lists.{occurrences}
-use Rattle.counting.specs.OccurrenceLaws.{occurrences-append, occurrences_back, occurrences_most}
+use Rattle.counting.proofs.OccurrenceLaws.{occurrences-append, occurrences_back, occurrences_most}
 use Rattle.graph.specs.Graph.{Graph, names, degree_in}
 use Rattle.graph.specs.Peeling.{unremoved, join_back, degree, one_left, follow, follow_all}
 use Rattle.graph.specs.Moment.{Single, Sound}
-use Rattle.graph.specs.DegreeLaws.{unremoved_absent, absent_unremoved, names_some}
+use Rattle.graph.proofs.DegreeLaws.{unremoved_absent, absent_unremoved, names_some}
 
 -- ---- joining the back
 

@@ -3,13 +3,13 @@ use Rattle.std.specs.Prelude.{◌≡◌, refl, ◌≢◌, Bool, true, false, ◌
 use Rattle.std.proofs.Math.Path.{ap}
 use Rattle.std.proofs.Common.{arith}
 use borrow.Author.Tests.{eqb-true, eq-eqb, ne_eqb}
-use Rattle.counting.specs.TestLaws.{and_both, and_left, and_right}
+use Rattle.counting.proofs.TestLaws.{and_both, and_left, and_right}
 use Rattle.counting.specs.Below.{sum, bit}
-use Rattle.counting.specs.BelowLaws.{sum_equal, sum_but}
-use Rattle.counting.specs.CountLaws.{bit_self, bit-other, count_mono, count_has, count-one}
-use Rattle.counting.specs.SearchLaws.{any_has, any_some}
+use Rattle.counting.proofs.BelowLaws.{sum_equal, sum_but}
+use Rattle.counting.proofs.CountLaws.{bit_self, bit-other, count_mono, count_has, count-one}
+use Rattle.counting.proofs.SearchLaws.{any_has, any_some}
 use Rattle.counting.specs.Lists.{occurrences}
-use Rattle.counting.specs.OccurrenceLaws.{occurrences_back}
+use Rattle.counting.proofs.OccurrenceLaws.{occurrences_back}
 use Rattle.graph.specs.Graph.{Graph, names, degree_in, size}
 use Rattle.graph.specs.Peeling.{unremoved}
 

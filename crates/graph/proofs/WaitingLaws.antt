@@ -8,12 +8,12 @@ use Prim.Native.Nat.{ℕ, zero, suc, ◌+◌, ◌-◌, ◌≤◌}
 use native.Mathlib.Omega.{arith}
 use Rattle.std.proofs.Math.ListN.{length-append}
 use Rattle.counting.specs.Larger.{larger}
-use Rattle.counting.specs.LargerLaws.{larger-first, larger_second, larger_either, larger-both, larger_of_two}
+use Rattle.counting.proofs.LargerLaws.{larger-first, larger_second, larger_either, larger-both, larger_of_two}
 use Rattle.graph.specs.Graph.{Graph}
 use Rattle.graph.specs.Peeling.{first_waiting, follow_all}
 use Rattle.graph.specs.Run.{Reached, start, step}
 use Rattle.graph.specs.Waiting.{most_from, most_waiting, SoManyWait, Counted}
-use Rattle.graph.specs.PeelingLaws.{reached_room}
+use Rattle.graph.proofs.PeelingLaws.{reached_room}
 
 module _ (G : Graph) where
   open G use {edges, arity}

@@ -6,19 +6,19 @@ use Rattle.std.proofs.Math.Logic.{⊎_elim}
 use Prim.Native.Nat.{ℕ, ◌+◌, ◌%◌, ◌≤◌, ◌<◌}
 use Rattle.std.proofs.Math.Nat.{mod_self, zero-mod}
 use native.Mathlib.Omega.{arith}
-use Rattle.counting.specs.TestLaws.{eq?, clash}
+use Rattle.counting.proofs.TestLaws.{eq?, clash}
 use Rattle.counting.specs.Below.{bit, sum}
-use Rattle.counting.specs.BelowLaws.{sum_equal, sum-zero, sum_but, sum-mod_but}
-use Rattle.counting.specs.CountLaws.{bit_self}
+use Rattle.counting.proofs.BelowLaws.{sum_equal, sum-zero, sum_but, sum-mod_but}
+use Rattle.counting.proofs.CountLaws.{bit_self}
 use Rattle.counting.specs.Lists.{occurrences}
-use Rattle.counting.specs.OccurrenceLaws.{occurrences_front}
+use Rattle.counting.proofs.OccurrenceLaws.{occurrences_front}
 use Rattle.graph.specs.Graph.{Graph, Proper}
 use Rattle.graph.specs.Peeling.{number_left}
 use Rattle.graph.specs.Assignment.{assigned, landing, assigned_below, first_unvisited, visited_sum, fresh, assign, values, landing_vertex}
-use Rattle.graph.specs.DegreeLaws.{names_at}
-use Rattle.graph.specs.PeelingLaws.{removal_edges, removal_length, removed_all}
-use Rattle.graph.specs.OrderLaws.{Leads, Ordered, none, more, removal_ordered}
-use Rattle.graph.specs.AssignmentLaws.{minus_mod-sum, new_vertex, names_visited, new_place, new_unvisited, new_value, new_less, other-value, visited_value, unvisited_unassigned}
+use Rattle.graph.proofs.DegreeLaws.{names_at}
+use Rattle.graph.proofs.PeelingLaws.{removal_edges, removal_length, removed_all}
+use Rattle.graph.proofs.OrderLaws.{Leads, Ordered, none, more, removal_ordered}
+use Rattle.graph.proofs.AssignmentLaws.{minus_mod-sum, new_vertex, names_visited, new_place, new_unvisited, new_value, new_less, other-value, visited_value, unvisited_unassigned}
 
 pub less_assigned : (r value : ℕ) → value < r → assigned r value ≡ true
 less_assigned r value l = ap not (ne_eqb value r (omega arith))

@@ -8,18 +8,18 @@ use mathlib.Core.List.{List, [], ◌∷◌}
 use Rattle.std.proofs.Math.Nat.{mod_self, zero-mod, add-mod-mod, add-mul-mod_self_right}
 use native.Mathlib.Omega.{arith}
 use Rattle.std.proofs.lemmas.Bool.{not-true}
-use Rattle.counting.specs.TestLaws.{eq?, clash, never_true, or_either, or_second, or_neither}
+use Rattle.counting.proofs.TestLaws.{eq?, clash, never_true, or_either, or_second, or_neither}
 use Rattle.counting.specs.Below.{sum}
-use Rattle.counting.specs.BelowLaws.{sum-mod}
-use Rattle.counting.specs.CountLaws.{bit_self}
-use Rattle.counting.specs.SearchLaws.{lowest_some}
+use Rattle.counting.proofs.BelowLaws.{sum-mod}
+use Rattle.counting.proofs.CountLaws.{bit_self}
+use Rattle.counting.proofs.SearchLaws.{lowest_some}
 use Rattle.counting.specs.Lists.{occurrences}
-use Rattle.counting.specs.OccurrenceLaws.{occurrences_front}
+use Rattle.counting.proofs.OccurrenceLaws.{occurrences_front}
 use Rattle.graph.specs.Graph.{Graph, names}
 use Rattle.graph.specs.Peeling.{removal_list}
 use Rattle.graph.specs.Assignment.{minus_mod, first_unvisited, visited_sum, assign_edge, fresh, assign, values}
-use Rattle.graph.specs.DegreeLaws.{names_at}
-use Rattle.graph.specs.OrderLaws.{Leads, Ordered, none, more, ordered_drop, removal_ordered}
+use Rattle.graph.proofs.DegreeLaws.{names_at}
+use Rattle.graph.proofs.OrderLaws.{Leads, Ordered, none, more, ordered_drop, removal_ordered}
 
 -- (j - s) mod r makes up what s lacks to j
 pub minus_mod-sum : (r j s : ℕ) → j < r → (s + minus_mod r j s) % r ≡ j

@@ -5,16 +5,16 @@ use Rattle.std.proofs.Common.{◌∙◌, arith, eqb-true, eq-eqb, ne_eqb}
 use Rattle.std.proofs.Math.Bool.{Bool, true, false, not}
 use Prim.Native.Nat.{ℕ, ◌≤◌, ◌<◌}
 use Rattle.std.proofs.Math.Dec.{eqb}
-use Rattle.counting.specs.TestLaws.{clash, never_true, and_both, and_left, and_right}
+use Rattle.counting.proofs.TestLaws.{clash, never_true, and_both, and_left, and_right}
 use Rattle.counting.specs.Below.{count, any}
-use Rattle.counting.specs.CountLaws.{count_has, count_without, count_into}
-use Rattle.counting.specs.SearchLaws.{any_has, any_some}
+use Rattle.counting.proofs.CountLaws.{count_has, count_without, count_into}
+use Rattle.counting.proofs.SearchLaws.{any_has, any_some}
 use Rattle.graph.specs.Graph.{Graph, names, degree_in}
 use Rattle.graph.specs.Peeling.{left_over, number_left}
 use Rattle.graph.specs.Group.{Group}
 use Rattle.graph.specs.Within.{Within}
-use Rattle.graph.specs.DegreeLaws.{names_at, names_some}
-use Rattle.graph.specs.GroupLaws.{left_group, group_left}
+use Rattle.graph.proofs.DegreeLaws.{names_at, names_some}
+use Rattle.graph.proofs.GroupLaws.{left_group, group_left}
 
 -- what a set of edges of G becomes in H
 image : (G : Graph) (to : ℕ → ℕ) → (ℕ → Bool) → ℕ → Bool

@@ -3,7 +3,7 @@ use Rattle.std.specs.Prelude.{◌≡◌, ℕ, ◌+◌, ◌*◌, ◌/◌, ◌%◌
 use Rattle.std.proofs.Common.{sym, ap, ◌∙◌, mod-lt}
 use Rattle.std.proofs.Math.Nat.{div-add-mod}
 use Rattle.counting.specs.Below.{bit, count}
-use Rattle.counting.specs.BelowLaws.{sum_equal, sum_split}
+use Rattle.counting.proofs.BelowLaws.{sum_equal, sum_split}
 use Rattle.graph.specs.Assignment.{assigned, landing, assigned_below, block_size, rank_entry}
 
 -- edges with the same r vertices, by values that agree on them

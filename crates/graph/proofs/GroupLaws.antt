@@ -4,17 +4,17 @@ use Rattle.std.proofs.Math.Path.{refl}
 use Rattle.std.proofs.Common.{sym, ap, arith, eqb-true, eq-eqb}
 use Rattle.std.proofs.Math.Logic.{⊎_elim}
 use Rattle.std.proofs.Math.Bool.{true}
-use Rattle.counting.specs.TestLaws.{eq?, lt?, or_either, or_second}
-use Rattle.counting.specs.CountLaws.{bit_self, bit-other, count_mono, count_has}
+use Rattle.counting.proofs.TestLaws.{eq?, lt?, or_either, or_second}
+use Rattle.counting.proofs.CountLaws.{bit_self, bit-other, count_mono, count_has}
 use Rattle.counting.specs.Lists.{occurrences}
-use Rattle.counting.specs.OccurrenceLaws.{occurrences_back}
+use Rattle.counting.proofs.OccurrenceLaws.{occurrences_back}
 use Rattle.graph.specs.Graph.{Graph, names, degree_in, size}
 use Rattle.graph.specs.Peeling.{unremoved, left_over, number_left}
 use Rattle.graph.specs.Group.{Group}
 use Rattle.graph.specs.Run.{Reached, start, step}
-use Rattle.graph.specs.DegreeLaws.{unremoved_absent, absent_unremoved, names_at, degree_mono, degree_has, degree-one}
+use Rattle.graph.proofs.DegreeLaws.{unremoved_absent, absent_unremoved, names_at, degree_mono, degree_has, degree-one}
 use Rattle.graph.specs.Moment.{Sound}
-use Rattle.graph.specs.PeelingLaws.{reached_peeled, removal_reached, removal_peeled}
+use Rattle.graph.proofs.PeelingLaws.{reached_peeled, removal_reached, removal_peeled}
 
 module _ (G : Graph) where
   open G use {edges, arity, vertex_of}

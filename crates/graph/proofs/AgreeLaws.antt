@@ -6,22 +6,22 @@ use Rattle.std.proofs.Math.Logic.{⊎_elim}
 use Rattle.std.proofs.Math.Bool.{not, cond}
 use Prim.Native.Nat.{ℕ, zero, suc, ◌≤◌, ◌<◌}
 use Rattle.std.proofs.Math.Dec.{eqb}
-use Rattle.counting.specs.TestLaws.{eq?}
+use Rattle.counting.proofs.TestLaws.{eq?}
 use Rattle.counting.specs.Larger.{larger}
 use Rattle.counting.specs.Below.{bit, count, lowest}
-use Rattle.counting.specs.BelowLaws.{sum_equal, sum-zero}
-use Rattle.counting.specs.SearchLaws.{any_equal, lowest_equal}
-use Rattle.counting.specs.OccurrenceLaws.{those_equal}
+use Rattle.counting.proofs.BelowLaws.{sum_equal, sum-zero}
+use Rattle.counting.proofs.SearchLaws.{any_equal, lowest_equal}
+use Rattle.counting.proofs.OccurrenceLaws.{those_equal}
 use Rattle.graph.specs.Graph.{Graph, Proper, names, degree_in}
 use Rattle.graph.specs.Peeling.{unremoved, one_left, first_waiting, follow, follow_all, peel, removal_list, left_over, number_left}
 use Rattle.graph.specs.Run.{Reached, start, step}
 use Rattle.graph.specs.Waiting.{most_from, most_waiting}
 use Rattle.graph.specs.Assignment.{landing, assigned_below, rank_entry, minus_mod, Table, first_unvisited, visited_sum, assign_edge, fresh, assign, values, landing_vertex, line, edge_of_line}
 use Rattle.graph.specs.Agree.{Agree}
-use Rattle.graph.specs.PeelingLaws.{front_edge, reached_peeled}
-use Rattle.graph.specs.OrderLaws.{Ordered, none, more, removal_ordered}
-use Rattle.graph.specs.AssignmentLaws.{new_place, values_most}
-use Rattle.graph.specs.RankLaws.{landing_equal}
+use Rattle.graph.proofs.PeelingLaws.{front_edge, reached_peeled}
+use Rattle.graph.proofs.OrderLaws.{Ordered, none, more, removal_ordered}
+use Rattle.graph.proofs.AssignmentLaws.{new_place, values_most}
+use Rattle.graph.proofs.RankLaws.{landing_equal}
 
 -- as many edges and vertices as G has, and the edges name what g says
 abbrev renamed : Graph → (ℕ → ℕ → ℕ) → Graph

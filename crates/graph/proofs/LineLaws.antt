@@ -4,12 +4,12 @@ use Rattle.std.proofs.Math.Path.{ap}
 use Rattle.std.proofs.Common.{◌∙◌, arith}
 use Rattle.std.proofs.Math.Dec.{eqb}
 use borrow.Author.Tests.{eqb-true, eq-eqb}
-use Rattle.counting.specs.CountLaws.{rank_less, rank_own, rank_onto}
-use Rattle.counting.specs.SearchLaws.{lowest_some}
+use Rattle.counting.proofs.CountLaws.{rank_less, rank_own, rank_onto}
+use Rattle.counting.proofs.SearchLaws.{lowest_some}
 use Rattle.graph.specs.Graph.{Graph, Proper}
 use Rattle.graph.specs.Peeling.{number_left}
 use Rattle.graph.specs.Assignment.{assigned, assigned_below, values, landing_vertex, line, edge_of_line}
-use Rattle.graph.specs.LandingLaws.{landing_inside, landing-assigned, landing_own, assigned-landing, assigned-number}
+use Rattle.graph.proofs.LandingLaws.{landing_inside, landing-assigned, landing_own, assigned-landing, assigned-number}
 
 module _ (G : Graph) (ok : Proper G) (nothing : number_left G ≡ 0) where
   open G use {edges, arity, vertices}

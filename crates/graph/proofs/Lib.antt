@@ -1,0 +1,14 @@
+pub mod AFewGraphs
+pub mod DegreeLaws
+pub mod QueueLaws
+pub mod PeelingLaws
+pub mod WaitingLaws
+pub mod GroupLaws
+pub mod WithinLaws
+pub mod OrderLaws
+pub mod AssignmentLaws
+pub mod LandingLaws
+pub mod LineLaws
+pub mod RankLaws
+pub mod AgreeLaws
+pub mod Theorems
