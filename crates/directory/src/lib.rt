@@ -1,21 +1,22 @@
 // What a directory is: the answers here, and their meaning in specs/. No code.
+#![tactic(auto)]
 
 // Building: success with the most codes that waited at once, or a refusal's number and place.
-#[derive(Drop)]
+#[derive(Clone, Copy)]
 pub enum Built {
     Done(usize),
     Refused(u8, usize),
 }
 
 // Opening: n, r and v, or a refusal's number and place.
-#[derive(Drop)]
+#[derive(Clone, Copy)]
 pub enum Opening {
     Opened(u16, u8, u16),
     Refused(u8, usize),
 }
 
 // Looking up: the line, no line, or a refusal's number and place.
-#[derive(Drop)]
+#[derive(Clone, Copy)]
 pub enum Found {
     At(usize),
     Unknown,
@@ -23,14 +24,14 @@ pub enum Found {
 }
 
 // A part of a file: where it starts, and how many bytes it has.
-#[derive(Drop)]
+#[derive(Clone, Copy)]
 pub struct Part {
     pub start: usize,
     pub size: usize,
 }
 
 // Where a code leads by the stored values: to no line, to a line below n, or by a rank entry to a line of n or more.
-#[derive(Drop)]
+#[derive(Clone, Copy)]
 pub enum Lead {
     Nowhere,
     ToLine(usize),
@@ -38,7 +39,7 @@ pub enum Lead {
 }
 
 // The group that a refusal number belongs to.
-#[derive(Drop)]
+#[derive(Clone, Copy)]
 pub enum RefusalGroup {
     Building,
     Opening,
@@ -48,7 +49,7 @@ pub enum RefusalGroup {
 }
 
 // What the place of a refusal is.
-#[derive(Drop)]
+#[derive(Clone, Copy)]
 pub enum PlaceMeaning {
     Nothing,
     Code,
