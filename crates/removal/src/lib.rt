@@ -1,4 +1,6 @@
 // Peeling over arrays that the caller lends: degrees and index sums, the first queue, and the edges removed in their order.
+#![tactic(auto)]
+
 pub mod edges; // edges.rt: the vertices of an edge
 pub mod tally; // tally.rt: degrees and index sums
 mod queue; // queue.rt: the first queue, and the peeling
@@ -11,7 +13,7 @@ use crate::queue::{first_queue, peel};
 use crate::tally::tally;
 
 // How many edges peeling leaves over, and how many waited at once at the most.
-#[derive(Drop)]
+#[derive(Clone, Copy)]
 pub struct Counts {
     pub left: usize,
     pub most: usize,

@@ -6,14 +6,14 @@ use Rattle.std.proofs.Math.Path.{ap}
 use Rattle.std.proofs.Math.Numerals.{add-one}
 use Rattle.std.proofs.Math.ListN.{length-set}
 use Rattle.counting.specs.Below.{bit, any, lowest, those}
-use Rattle.counting.specs.SearchLaws.{any_equal, any-lowest}
+use Rattle.counting.proofs.SearchLaws.{any_equal, any-lowest}
 use Rattle.counting.specs.Lists.{occurrences}
-use Rattle.counting.specs.OccurrenceLaws.{those_once}
+use Rattle.counting.proofs.OccurrenceLaws.{those_once}
 use Rattle.graph.specs.Graph.{Graph}
 use Rattle.graph.specs.Peeling.{degree, first_waiting}
 use Rattle.counting.specs.Holds.{Holds}
 use Rattle.removal.specs.Arrays.{vertex_at, graph_in, Held}
-use Rattle.counting.specs.HoldsLaws.{holds_none, holds_more}
+use Rattle.counting.proofs.HoldsLaws.{holds_none, holds_more}
 use Rattle.removal.specs.Queue.{Queued}
 
 -- edge e has a vertex of degree 1 before anything is removed

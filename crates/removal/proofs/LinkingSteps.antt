@@ -2,10 +2,10 @@
 -- D and C stand for the arrays of degrees and index sums; a prime marks what has become of one.
 use Rattle.std.specs.Prelude.{◌≡◌, ◌≢◌, List, ℕ, ◌+◌, ◌-◌, ◌*◌, ◌≤◌, ◌<◌, eqb, length, get_or, set}
 use Rattle.std.proofs.Common.{sym, ap, ⊎_elim, mul-le-mul_right, add-one, arith, get_or-set_same, get_or-set_other, eq-eqb, ne_eqb}
-use Rattle.counting.specs.TestLaws.{eq?}
+use Rattle.counting.proofs.TestLaws.{eq?}
 use Rattle.counting.specs.Below.{sum, bit}
-use Rattle.counting.specs.BelowLaws.{sum_up_to}
-use Rattle.counting.specs.CountLaws.{bit_self}
+use Rattle.counting.proofs.BelowLaws.{sum_up_to}
+use Rattle.counting.proofs.CountLaws.{bit_self}
 use Rattle.counting.specs.Widths.{two_bytes}
 use Rattle.removal.specs.Arrays.{vertex_at}
 use Rattle.removal.specs.Linking.{four_bytes, times, Added, Room, Enough}

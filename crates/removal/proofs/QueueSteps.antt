@@ -5,16 +5,16 @@ use Rattle.std.proofs.Common.{sym, ap, ◌∙◌, ⊎_elim, append_assoc, add-on
 use Rattle.std.proofs.Math.Bool.{true, false}
 use Rattle.std.proofs.Math.Dec.{eqb}
 use borrow.Author.Tests.{eq-eqb, ne_eqb}
-use Rattle.counting.specs.TestLaws.{eq?}
-use Rattle.counting.specs.CountLaws.{bit_self, bit-other}
+use Rattle.counting.proofs.TestLaws.{eq?}
+use Rattle.counting.proofs.CountLaws.{bit_self, bit-other}
 use Rattle.counting.specs.Lists.{occurrences}
-use Rattle.counting.specs.OccurrenceLaws.{occurrences_back}
+use Rattle.counting.proofs.OccurrenceLaws.{occurrences_back}
 use Rattle.graph.specs.Graph.{Graph}
 use Rattle.graph.specs.Peeling.{unremoved, join_back, degree, one_left, follow, follow_all}
 use Rattle.graph.specs.Moment.{Sound}
-use Rattle.graph.specs.QueueLaws.{one_left_lem, sound_room, follow_all_sound}
+use Rattle.graph.proofs.QueueLaws.{one_left_lem, sound_room, follow_all_sound}
 use Rattle.removal.specs.Arrays.{vertex_at, graph_in, Held, index_sum}
-use Rattle.removal.specs.TallyLaws.{index_one-left}
+use Rattle.removal.proofs.TallyLaws.{index_one-left}
 use Rattle.removal.specs.Queue.{removed_of, waiting_of, Queued, Joinable, Joined}
 
 -- ---- following a vertex, by its degree and the mark of the edge left on it

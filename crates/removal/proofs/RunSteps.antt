@@ -6,12 +6,12 @@ use Rattle.counting.specs.Larger.{larger}
 use Rattle.graph.specs.Graph.{Graph}
 use Rattle.graph.specs.Peeling.{unremoved, first_waiting, removal_list}
 use Rattle.graph.specs.Run.{start}
-use Rattle.graph.specs.PeelingLaws.{peel_none, reached_removal, left-and_removed}
+use Rattle.graph.proofs.PeelingLaws.{peel_none, reached_removal, left-and_removed}
 use Rattle.graph.specs.Waiting.{Counted}
-use Rattle.graph.specs.WaitingLaws.{counted_start, counted_step, counted-end}
+use Rattle.graph.proofs.WaitingLaws.{counted_start, counted_step, counted-end}
 use Rattle.removal.specs.Arrays.{graph_in, Held, Wide, Tallied}
 use Rattle.removal.specs.Queue.{removed_of, waiting_of, Queued, Going, Starts, Stepped, Removed}
-use Rattle.removal.specs.PeelSteps.{front, removed_more}
+use Rattle.removal.proofs.PeelSteps.{front, removed_more}
 
 -- the first queue stands in the array: the peeling can start
 pub starts_ready : {n r m : ℕ} {edges D C M O : List ℕ} {tail : ℕ} → Held n r m edges → Wide m D C → length M ≡ n → length O ≡ n → Tallied (graph_in n r m edges) (unremoved []) D C → Queued n [] (first_waiting (graph_in n r m edges)) M O tail → Starts n r m edges D C M O tail

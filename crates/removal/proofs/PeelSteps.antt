@@ -4,19 +4,19 @@ use Rattle.std.specs.Prelude.{◌≡◌, ◌≢◌, List, [], ◌∷◌, ◌++�
 use Rattle.std.proofs.Common.{sym, ◌∙◌, add-one, arith, length-append, length-set, take-suc, length-take-le, take-take, get_or-take, get_or-set_same, drop-cons, take_at, drop_at}
 use Rattle.std.proofs.Math.Path.{ap}
 use Rattle.counting.specs.Lists.{occurrences}
-use Rattle.counting.specs.OccurrenceLaws.{occurrences_back}
+use Rattle.counting.proofs.OccurrenceLaws.{occurrences_back}
 use Rattle.graph.specs.Graph.{Graph}
 use Rattle.graph.specs.Peeling.{unremoved, follow_all}
 use Rattle.graph.specs.Run.{Reached, step}
-use Rattle.graph.specs.DegreeLaws.{OneMore, removed_one_more}
+use Rattle.graph.proofs.DegreeLaws.{OneMore, removed_one_more}
 use Rattle.graph.specs.Moment.{Sound}
-use Rattle.graph.specs.PeelingLaws.{front_edge, front_absent, step_sound, reached_peeled}
+use Rattle.graph.proofs.PeelingLaws.{front_edge, front_absent, step_sound, reached_peeled}
 use Rattle.removal.specs.Arrays.{graph_in, vertex_at, Wide}
 use Rattle.removal.specs.Linking.{Added}
-use Rattle.removal.specs.LinkingSteps.{added_none, UnlinkTurn, unlink_turn}
-use Rattle.removal.specs.TallyLaws.{tallied_less, tallied_enough, left-degree, left-sum}
+use Rattle.removal.proofs.LinkingSteps.{added_none, UnlinkTurn, unlink_turn}
+use Rattle.removal.proofs.TallyLaws.{tallied_less, tallied_enough, left-degree, left-sum}
 use Rattle.removal.specs.Queue.{removed_of, waiting_of, Queued, Ready, Going, Stepped, Joinable, Joined}
-use Rattle.removal.specs.QueueSteps.{removed_waiting, Turn, c-below, joins_none, can_join, joins_one}
+use Rattle.removal.proofs.QueueSteps.{removed_waiting, Turn, c-below, joins_none, can_join, joins_one}
 
 -- its first j vertices are looked at: it is off them, and what is left alone on them has joined
 pub record Removing (n r m : ℕ) (edges D C O : List ℕ) (head tail : ℕ) (D' C' M' O' : List ℕ) (t j : ℕ) : Type 0 where

@@ -5,20 +5,19 @@ use Rattle.std.proofs.Math.Path.{sym}
 use Rattle.std.proofs.Common.{ap, ◌∙◌, ⊎_elim, arith, eqb-true, lt-ltb, le-ltb}
 use Rattle.std.proofs.Math.Nat.{mul-le-mul_right, mul-le-mul_left}
 use Rattle.std.proofs.Math.Dec.{eqb}
-use Rattle.counting.specs.TestLaws.{lt?, and_both}
+use Rattle.counting.proofs.TestLaws.{lt?, and_both}
 use Rattle.counting.specs.Below.{sum, bit}
-use Rattle.counting.specs.BelowLaws.{sum_mono, sum-zero, sum_equal, sum_constant}
-use Rattle.counting.specs.CountLaws.{bit_most, bit_self, count_most, count-place}
-use Rattle.counting.specs.SearchLaws.{count-any}
+use Rattle.counting.proofs.BelowLaws.{sum_mono, sum-zero, sum_equal, sum_constant}
+use Rattle.counting.proofs.CountLaws.{bit_most, bit_self, count_most, count-place}
+use Rattle.counting.proofs.SearchLaws.{count-any}
 use Rattle.graph.specs.Graph.{Graph, names, degree_in}
 use Rattle.graph.specs.Peeling.{unremoved, degree, one_left}
-use Rattle.graph.specs.DegreeLaws.{OneMore, absent_unremoved, weighed_more, degree_more, degree_equal}
-use Rattle.graph.specs.QueueLaws.{one_left_lem}
-use Rattle.counting.specs.Holds.{Holds}
+use Rattle.graph.proofs.DegreeLaws.{OneMore, absent_unremoved, weighed_more, degree_more, degree_equal}
+use Rattle.graph.proofs.QueueLaws.{one_left_lem}
 use Rattle.counting.specs.Widths.{two_bytes}
 use Rattle.removal.specs.Arrays.{vertex_at, graph_in, Held, Vertices, Wide, Untallied, index_sum, Tallied}
 use Rattle.removal.specs.Linking.{four_bytes, times, Added, Room, Enough}
-use Rattle.removal.specs.LinkingSteps.{times_more, times-left}
+use Rattle.removal.proofs.LinkingSteps.{times_more, times-left}
 
 -- the vertices of an edge can be read, and are places of an array that is wide enough
 pub held_vertices : {n r m : ℕ} {edges : List ℕ} → Held n r m edges → {e : ℕ} → e < n → (w : ℕ) → m ≤ w → Vertices r e edges w
