@@ -1,4 +1,6 @@
 // Peeling, assignment and rank over arrays that the caller lends: from the vertices of the edges to the number left, the values, the rank entries and the order of the edges by line.
+#![tactic(auto)]
+
 mod assigning; // assigning.rt: the values
 mod ranking; // ranking.rt: the rank entries, and the order of the edges by line
 

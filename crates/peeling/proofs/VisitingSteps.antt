@@ -1,11 +1,11 @@
 -- One turn of visiting the vertices of an edge, from the last to the first. Assumes nothing.
 -- M, M' and W stand for the marks before, the marks so far and the values.
-use Rattle.std.specs.Prelude.{◌≡◌, refl, ◌≢◌, Bool, true, false, List, ℕ, ◌+◌, ◌-◌, ◌*◌, ◌≤◌, ◌<◌, eqb, length, get_or, set}
+use Rattle.std.specs.Prelude.{◌≡◌, refl, ◌≢◌, true, false, List, ℕ, ◌+◌, ◌-◌, ◌*◌, ◌≤◌, ◌<◌, eqb, length, get_or, set}
 use Rattle.std.proofs.Common.{sym, ap, ◌∙◌, ⊎_elim, mul-le-mul, arith, length-set, get_or-set_same, get_or-set_other, eq-eqb, ne_eqb}
-use Rattle.counting.specs.TestLaws.{eq?}
+use Rattle.counting.proofs.TestLaws.{eq?}
 use Rattle.counting.specs.Below.{sum}
-use Rattle.counting.specs.BelowLaws.{sum_none, sum-next, sum_mono, sum_constant}
-use Rattle.counting.specs.SearchLaws.{lowest_only}
+use Rattle.counting.proofs.BelowLaws.{sum_none, sum-next, sum_mono, sum_constant}
+use Rattle.counting.proofs.SearchLaws.{lowest_only}
 use Rattle.counting.specs.Widths.{one_byte, two_bytes}
 use Rattle.removal.specs.Arrays.{vertex_at}
 use Rattle.peeling.specs.Assigning.{value_sum, Visitable, VisitedFrom, Visited}
@@ -101,3 +101,11 @@ module _ (j : ℕ) {r e : ℕ} {edges M W M' : List ℕ} {first total x : ℕ} (
       seen_more first s.high
       (λ k l h. ⊎_elim (λ (same : k ≡ j). rw same (ne_eqb _ _ (λ z. d (x-before ∙ z)))) (λ (o : k ≢ j). s.none k (omega arith) h) (eq? k j))
       s.passes
+
+  -- by its old mark: an unvisited vertex is the first one now
+  pub seen_next : {first' : ℕ} → (get_or M' x 0 ≡ 0 → first' ≡ j) → (get_or M' x 0 ≢ 0 → first' ≡ first) → Seen j r e edges M W (set M' x 1) first' (total + get_or W x 0)
+  seen_next here kept =
+      ⊎_elim
+      (λ (z : get_or M' x 0 ≡ 0). rw (here z) (seen_free z))
+      (λ (d : get_or M' x 0 ≢ 0). rw (kept d) (seen_visited d))
+      (eq? (get_or M' x 0) 0)

@@ -8,16 +8,16 @@ use borrow.Author.Tests.{eqb-false, ne_eqb, not-true}
 use Rattle.graph.specs.Graph.{Graph}
 use Rattle.graph.specs.Peeling.{number_left}
 use Rattle.graph.specs.Assignment.{assigned_below, block_size, blocks, rank_entry, values, landing_vertex, line, edge_of_line}
-use Rattle.graph.specs.RankLaws.{below_equal}
-use Rattle.graph.specs.PeelingLaws.{removed_degree}
-use Rattle.graph.specs.LandingLaws.{landing_inside, landing-assigned, assigned-landing, assigned-number}
-use Rattle.graph.specs.LineLaws.{edge_line}
+use Rattle.graph.proofs.RankLaws.{below_equal}
+use Rattle.graph.proofs.PeelingLaws.{removed_degree}
+use Rattle.graph.proofs.LandingLaws.{landing_inside, landing-assigned, assigned-landing, assigned-number}
+use Rattle.graph.proofs.LineLaws.{edge_line}
 use Rattle.removal.specs.Arrays.{graph_in, Held, Wide}
-use Rattle.counting.specs.HoldsLaws.{holds_front}
+use Rattle.counting.proofs.HoldsLaws.{holds_front}
 use Rattle.removal.specs.Queue.{Removed}
 use Rattle.peeling.specs.Assigning.{AllRemoved, Assigned}
 use Rattle.peeling.specs.Ranking.{Placed, RankedTo}
-use Rattle.peeling.specs.RankingSteps.{block_start}
+use Rattle.peeling.proofs.RankingSteps.{block_start}
 use Rattle.peeling.specs.Arranging.{Lined, Arranged}
 
 -- ---- the end of the peeling

@@ -7,23 +7,23 @@ use Rattle.std.proofs.Math.Bool.{true, false, not}
 use Rattle.std.proofs.Math.Dec.{eqb}
 use Rattle.std.proofs.Math.ListN.{length, length-set}
 use Rattle.std.proofs.Math.Seq.{drop-length, get_or-set_other}
-use Rattle.counting.specs.TestLaws.{eq?, clash}
+use Rattle.counting.proofs.TestLaws.{eq?, clash}
 use Rattle.counting.specs.Below.{bit}
-use Rattle.counting.specs.BelowLaws.{sum_equal}
-use Rattle.counting.specs.SearchLaws.{lowest_equal}
+use Rattle.counting.proofs.BelowLaws.{sum_equal}
+use Rattle.counting.proofs.SearchLaws.{lowest_equal}
 use Rattle.counting.specs.Lists.{occurrences}
-use Rattle.counting.specs.OccurrenceLaws.{occurrences_front}
+use Rattle.counting.proofs.OccurrenceLaws.{occurrences_front}
 use Rattle.graph.specs.Graph.{Graph, names}
 use Rattle.graph.specs.Peeling.{removal_list, number_left}
 use Rattle.graph.specs.Assignment.{Table, minus_mod, fresh, first_unvisited, visited_sum, assign, values, landing_vertex}
-use Rattle.graph.specs.DegreeLaws.{names_at, names_some}
-use Rattle.graph.specs.PeelingLaws.{removal_length, removed_all}
-use Rattle.graph.specs.OrderLaws.{Leads, removal_ordered, ordered_drop, ordered_at}
-use Rattle.graph.specs.AssignmentLaws.{visited_named, visited_unnamed, new_vertex, new_place, new_value, other-value, drop_most, sum_visited}
-use Rattle.graph.specs.LandingLaws.{landing_after, landing_later, landing_apart, landing_new}
+use Rattle.graph.proofs.DegreeLaws.{names_at, names_some}
+use Rattle.graph.proofs.PeelingLaws.{removal_length, removed_all}
+use Rattle.graph.proofs.OrderLaws.{Leads, removal_ordered, ordered_drop, ordered_at}
+use Rattle.graph.proofs.AssignmentLaws.{visited_named, visited_unnamed, new_vertex, new_place, new_value, other-value, drop_most, sum_visited}
+use Rattle.graph.proofs.LandingLaws.{landing_after, landing_later, landing_apart, landing_new}
 use Rattle.counting.specs.Holds.{Holds}
 use Rattle.removal.specs.Arrays.{graph_in, vertex_at, Held, Wide}
-use Rattle.removal.specs.TallyLaws.{held_vertices}
+use Rattle.removal.proofs.TallyLaws.{held_vertices}
 use Rattle.peeling.specs.Assigning.{free_of, value_sum, VisitedFrom, Free, Given, AllRemoved, Assigned}
 
 -- the later edges have their values: which vertices they visit, and where each of them lands

@@ -1,12 +1,13 @@
 -- One turn of ranking the vertices: the rank entry where a block starts, and the place of what is noted at an assigned vertex. Assumes nothing.
 -- W, N, R and K stand for the arrays of values, of edges noted, of rank entries and of keys.
-use Rattle.std.specs.Prelude.{◌≡◌, ◌≢◌, true, List, ℕ, ◌+◌, ◌*◌, ◌/◌, ◌%◌, ◌≤◌, ◌<◌, length, get_or, set}
-use Rattle.std.proofs.Common.{sym, ◌∙◌, ⊎_elim, get_or-set_same, get_or-set_other, below_more, ne_eqb, eq-eqb}
+use Rattle.std.specs.Prelude.{◌≡◌, ◌≢◌, List, ℕ, ◌+◌, ◌*◌, ◌/◌, ◌%◌, ◌≤◌, ◌<◌, length, get_or, set}
+use Rattle.std.proofs.Common.{◌∙◌, get_or-set_same, get_or-set_other, below_more, ne_eqb, eq-eqb, ⊎_elim}
 use Rattle.std.proofs.Math.Path.{ap}
 use native.Mathlib.Omega.{arith}
-use Rattle.counting.specs.CountLaws.{count_in, count_out, count_most, rank_less}
+use Rattle.counting.proofs.TestLaws.{eq?}
+use Rattle.counting.proofs.CountLaws.{count_in, count_out, count_most, rank_less}
 use Rattle.counting.specs.Holds.{Holds}
-use Rattle.counting.specs.HoldsLaws.{holds_more}
+use Rattle.counting.proofs.HoldsLaws.{holds_more}
 use Rattle.graph.specs.Assignment.{assigned, assigned_below, block_size, blocks, rank_entry}
 use Rattle.peeling.specs.Ranking.{Placed, Keyed}
 
@@ -24,6 +25,14 @@ module _ (r : ℕ) (value : ℕ → ℕ) (y : ℕ) where
   pub unassigned_counts_not : value y ≡ r → assigned_below r value (y + 1) ≡ assigned_below r value y
   unfolding assigned_below
   unassigned_counts_not i = count_out y (λ x. assigned r (value x)) (rw (eq-eqb (value y) r i))
+
+  -- by the value: an assigned vertex is counted
+  pub counts_next : {count count' : ℕ} → count ≡ assigned_below r value y → (value y ≢ r → count' ≡ count + 1) → (value y ≡ r → count' ≡ count) → count' ≡ assigned_below r value (y + 1)
+  counts_next c more same =
+      ⊎_elim
+      (λ (i : value y ≡ r). omega (arith, same i, unassigned_counts_not i))
+      (λ (d : value y ≢ r). omega (arith, more d, assigned_counts d))
+      (eq? (value y) r)
 
   pub assigned-below : value y ≢ r → (k : ℕ) → y < k → assigned_below r value y < assigned_below r value k
   unfolding assigned_below
@@ -66,3 +75,11 @@ module _ {r : ℕ} {W N R K : List ℕ} (p : Placed r W N R K) {x : ℕ} (l : x 
 
     pub keys_same : get_or W x 0 ≡ r → Keyed (x + 1) r W N K'
     keys_same i = below_more _ x k (λ d. absurd (d i))
+
+    -- by the value: what is noted at an assigned vertex gets its place
+    pub keys_next : {count : ℕ} {K″ : List ℕ} → count ≡ below x → (get_or W x 0 ≢ r → K″ ≡ set K' count (get_or N x 0)) → (get_or W x 0 ≡ r → K″ ≡ K') → Keyed (x + 1) r W N K″
+    keys_next c more same =
+        ⊎_elim
+        (λ (i : get_or W x 0 ≡ r). rw (same i) (keys_same i))
+        (λ (d : get_or W x 0 ≢ r). rw (more d) (keys_more c d))
+        (eq? (get_or W x 0) r)

@@ -1,0 +1,4 @@
+pub mod VisitingSteps
+pub mod AssigningSteps
+pub mod RankingSteps
+pub mod ArrangingLaws
