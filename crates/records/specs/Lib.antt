@@ -1,10 +1,3 @@
-pub mod SizeSteps
 pub mod Standing
-pub mod StandingLaws
-pub mod FramedLaws
 pub mod Comparing
-pub mod ComparingLaws
 pub mod Summing
-pub mod SummingLaws
-pub mod ReadingSteps
-pub mod LeadLaws

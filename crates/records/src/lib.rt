@@ -1,4 +1,6 @@
 // The records of a file, read where they stand: numbers, values, rank entries, the vertices of a code, and where it leads.
+#![tactic(auto)]
+
 pub mod offsets; // offsets.rt: where the records stand
 pub mod sizes; // sizes.rt: the sizes that are allowed
 pub mod numbers; // numbers.rt: marks and numbers in bytes
@@ -19,7 +21,7 @@ use crate::vertices::landing;
 use directory::Lead;
 
 // The sums of a code for its first, second and third part. Where there are two parts the third is not looked at.
-#[derive(Drop)]
+#[derive(Clone, Copy)]
 pub struct Sums {
     pub first: u32,
     pub second: u32,

@@ -1,0 +1,7 @@
+pub mod SizeSteps
+pub mod StandingLaws
+pub mod FramedLaws
+pub mod ComparingLaws
+pub mod SummingLaws
+pub mod ReadingSteps
+pub mod LeadLaws
