@@ -1,4 +1,2 @@
 pub mod Listed
-pub mod CodeSteps
 pub mod Naming
-pub mod NamingSteps

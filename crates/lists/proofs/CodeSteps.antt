@@ -6,10 +6,10 @@ use Rattle.std.proofs.Math.Bool.{true, false}
 use Rattle.std.proofs.Math.Dec.{ltb}
 use borrow.Author.Tests.{lt-ltb, le-ltb, ltb-true, ltb-false}
 use Rattle.counting.specs.Lists.{same}
-use Rattle.counting.specs.ListsLaws.{same_equal}
-use Rattle.counting.specs.TestLaws.{eq?, never_true, or_second}
+use Rattle.counting.proofs.ListsLaws.{same_equal}
+use Rattle.counting.proofs.TestLaws.{eq?, never_true, or_second}
 use Rattle.directory.specs.Codes.{start, end, code, wrong_length, wrong_code}
-use Rattle.directory.specs.CodesLaws.{length_wrong, length-right}
+use Rattle.directory.proofs.CodesLaws.{length_wrong, length-right}
 use Rattle.records.specs.Standing.{most_bytes}
 
 -- ---- where a code starts

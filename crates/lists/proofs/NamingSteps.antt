@@ -1,13 +1,13 @@
 -- One turn of each loop that writes vertices: one vertex more of a code, and one code more. Assumes nothing.
 use Rattle.std.specs.Prelude.{◌≡◌, refl, ◌≢◌, List, ℕ, ◌+◌, ◌*◌, ◌≤◌, ◌<◌, length, set}
 use Rattle.std.proofs.Common.{◌∙◌, ⊎_elim, mul-le-mul, arith, get_or-set_same, get_or-set_other}
-use Rattle.counting.specs.TestLaws.{eq?}
+use Rattle.counting.proofs.TestLaws.{eq?}
 use Rattle.directory.specs.Kind.{HD, vertex}
-use Rattle.directory.specs.KindLaws.{vertex-below}
+use Rattle.directory.proofs.KindLaws.{vertex-below}
 use Rattle.directory.specs.Codes.{code}
-use Rattle.directory.specs.CodesLaws.{code-length}
+use Rattle.directory.proofs.CodesLaws.{code-length}
 use Rattle.records.specs.Standing.{most_bytes}
-use Rattle.records.specs.FramedLaws.{sized_room}
+use Rattle.records.proofs.FramedLaws.{sized_room}
 use Rattle.lists.specs.Listed.{Nameable, Named}
 use Rattle.lists.specs.Naming.{Writable, Noted}
 
