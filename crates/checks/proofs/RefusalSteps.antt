@@ -7,7 +7,7 @@ use Rattle.directory.specs.declared.Opening.{Opening}
 use Rattle.directory.specs.declared.Opening.TheVariants.{Opened, Refused}
 use Rattle.directory.specs.Sizes.{Header}
 use Rattle.directory.specs.Refusals.{Refusal}
-use Rattle.directory.specs.RefusalLaws.{first_none, first_one, first_past}
+use Rattle.directory.proofs.RefusalLaws.{first_none, first_one, first_past}
 use Rattle.directory.specs.Opening.{opened_unless}
 
 module _ (h : Header) where

@@ -4,7 +4,7 @@ use Rattle.std.proofs.Math.Path.{sym, ap}
 use Rattle.std.proofs.Common.{◌∙◌}
 use Rattle.std.proofs.Math.Bool.{not}
 use Rattle.counting.specs.Below.{lowest}
-use Rattle.counting.specs.SearchLaws.{lowest-found, lowest_missed}
+use Rattle.counting.proofs.SearchLaws.{lowest-found, lowest_missed}
 use Rattle.directory.specs.declared.Opening.{Opening}
 use Rattle.directory.specs.declared.Opening.TheVariants.{Opened, Refused}
 use Rattle.directory.specs.Sizes.{Header, headed}
@@ -14,8 +14,8 @@ use Rattle.directory.specs.Values.{ranks_at}
 use Rattle.directory.specs.File.{header_length, weights_at, values_at, key_at}
 use Rattle.directory.specs.Opening.{wrong_mark, key_unmarked, mark_refusals, opened_unless}
 use Rattle.records.specs.Standing.{values_from, ranks_from, key_from}
-use Rattle.records.specs.StandingLaws.{key_from_lem}
-use Rattle.checks.specs.RefusalSteps.{opened-at-end, row_given, row_passed}
+use Rattle.records.proofs.StandingLaws.{key_from_lem}
+use Rattle.checks.proofs.RefusalSteps.{opened-at-end, row_given, row_passed}
 
 module _ (n r v : ℕ) (f : List ℕ) where
   abbrev h : Header

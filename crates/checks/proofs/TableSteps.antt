@@ -6,10 +6,10 @@ use Rattle.std.proofs.Math.Bool.{not}
 use Rattle.std.proofs.Math.Nat.{zero-add}
 use native.Mathlib.Omega.{arith}
 use borrow.Author.Tests.{lt-ltb, le-ltb, eq-eqb, ne_eqb}
-use Rattle.counting.specs.TestLaws.{or_second, or_none}
+use Rattle.counting.proofs.TestLaws.{or_second, or_none}
 use Rattle.counting.specs.Below.{bit, count, any, lowest}
-use Rattle.counting.specs.BelowLaws.{sum_none, sum_split}
-use Rattle.counting.specs.SearchLaws.{any_has, any_none, lowest_is, lowest_only, lowest-found, lowest_missed}
+use Rattle.counting.proofs.BelowLaws.{sum_none, sum_split}
+use Rattle.counting.proofs.SearchLaws.{any_has, any_none, lowest_is, lowest_only, lowest-found, lowest_missed}
 use Rattle.graph.specs.Assignment.{assigned, assigned_below, block_size, blocks, rank_entry}
 use Rattle.directory.specs.declared.Opening.{Opening}
 use Rattle.directory.specs.declared.Opening.TheVariants.{Opened, Refused}
@@ -19,7 +19,7 @@ use Rattle.directory.specs.Values.{value_in, rank_in, value_over, spare_set, ran
 use Rattle.directory.specs.File.{weights_at, values_at, table_in}
 use Rattle.directory.specs.Opening.{opened_unless}
 use Rattle.records.specs.Standing.{bytes_from, values_from}
-use Rattle.checks.specs.RefusalSteps.{opened-at-end, row_given, row_passed}
+use Rattle.checks.proofs.RefusalSteps.{opened-at-end, row_given, row_passed}
 
 -- ---- rank entries, of any values
 

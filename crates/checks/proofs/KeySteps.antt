@@ -5,7 +5,7 @@ use Rattle.std.proofs.Common.{◌∙◌}
 use native.Mathlib.Omega.{arith}
 use borrow.Author.Tests.{lt-ltb, le-ltb, ne_eqb}
 use Rattle.counting.specs.Below.{any, lowest}
-use Rattle.counting.specs.SearchLaws.{any_false, lowest-found, lowest_missed}
+use Rattle.counting.proofs.SearchLaws.{any_false, lowest-found, lowest_missed}
 use Rattle.directory.specs.declared.Lead.{Lead}
 use Rattle.directory.specs.declared.Opening.{Opening}
 use Rattle.directory.specs.declared.Opening.TheVariants.{Opened, Refused}
@@ -16,11 +16,11 @@ use Rattle.directory.specs.Bytes.{byte_at}
 use Rattle.directory.specs.Leads.{leads_to}
 use Rattle.directory.specs.File.{key_length, lead_in, stored_code}
 use Rattle.directory.specs.Whole.{Key}
-use Rattle.directory.specs.WholeLaws.{key as key_right}
+use Rattle.directory.proofs.WholeLaws.{key as key_right}
 use Rattle.directory.specs.Opening.{filling_set, key_wrong, astray, key_refusals, opened_unless}
 use Rattle.records.specs.Standing.{most_bytes, code_from}
-use Rattle.records.specs.StandingLaws.{code_from_lem}
-use Rattle.checks.specs.RefusalSteps.{opened-at-end, row_given, row_passed}
+use Rattle.records.proofs.StandingLaws.{code_from_lem}
+use Rattle.checks.proofs.RefusalSteps.{opened-at-end, row_given, row_passed}
 
 module _ (n r v : ℕ) (f : List ℕ) where
   abbrev h : Header
