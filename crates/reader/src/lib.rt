@@ -1,4 +1,6 @@
 // Reading a directory file: its header, a code's line, a line's code, and whether the whole file is right. Every call takes any bytes and looks at them itself; none writes.
+#![tactic(auto)]
+
 mod sizes; // sizes.rt: the sizes, and the length of a file
 mod heading; // heading.rt: the header
 mod looking; // looking.rt: looking a code up

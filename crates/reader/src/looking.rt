@@ -35,6 +35,7 @@ fn find(file: &[u8], n: usize, r: usize, v: usize, code: &[u8]) -> Found
 }
 
 // The line of a code, no line, or the first of the refusals 9, 10, 11, 9, 16, and 13 for a line of n or more.
+#[tactic(auto, using(crate::proofs::AfterHeader::lookup_wrong, crate::proofs::AfterHeader::lookup_wrong_numbers))]
 pub fn lookup(file: &[u8], code: &[u8]) -> Found
     ensures given { result ≡ lookup_of file.now code.now }
     ensures paper { found_numbers result ≡ lookup_numbers_of file.now code.now }

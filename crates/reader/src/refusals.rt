@@ -5,6 +5,7 @@ ghost use Rattle.directory.specs.Answers.{group_of, meaning_of};
 use directory::{PlaceMeaning, RefusalGroup};
 
 // The call that a refusal number belongs to.
+#[tactic(auto, using(std::proofs::lemmas::Bool::Decides::nat_tests), unfolding(directory::specs::Answers::group_of))]
 pub fn group_of(number: u8) -> RefusalGroup
     ensures { result ≡ group_of number }
 {
@@ -19,6 +20,7 @@ pub fn group_of(number: u8) -> RefusalGroup
 }
 
 // What the place of a refusal is.
+#[tactic(auto, using(std::proofs::lemmas::Bool::Decides::nat_tests), unfolding(directory::specs::Answers::meaning_of))]
 pub fn meaning_of(number: u8) -> PlaceMeaning
     ensures { result ≡ meaning_of number }
 {

@@ -6,19 +6,21 @@ use mathlib.Core.List.{List, [], ◌++◌}
 use Rattle.directory.specs.declared.Opening.TheVariants as opening
 use Rattle.directory.specs.declared.Found.TheVariants as found
 use Rattle.directory.specs.Sizes.{headed}
-use Rattle.directory.specs.CodesLaws.{length_wrong, length-right}
+use Rattle.directory.proofs.CodesLaws.{length_wrong, length-right}
 use Rattle.directory.specs.Kind.{HD}
 use Rattle.directory.specs.Refusals.{Refusal, first, NoneApplies}
-use Rattle.directory.specs.RefusalLaws.{given_more, given_first, first_none, first_past, first_one}
+use Rattle.directory.proofs.RefusalLaws.{given_more, given_first, first_none, first_past, first_one}
 use Rattle.directory.specs.File.{header_in, lead_in}
 use Rattle.directory.specs.Whole.{Framed}
-use Rattle.directory.specs.WholeLaws.{framed_back}
+use Rattle.directory.proofs.WholeLaws.{framed_back}
 use Rattle.directory.specs.Opening.{header_refusals, record_refusals, open_refusals, opened_unless, opening as opening_by}
-use Rattle.directory.specs.OpeningLaws.{header-opened, header_refused}
+use Rattle.directory.proofs.OpeningLaws.{header-opened, header_refused}
 use Rattle.directory.specs.LookingUp.{lookup_refusals, found as found_by, lookup}
 use Rattle.directory.specs.Showing.{empty_part, key_part, shown_part}
-use Rattle.directory.specs.Calls.{header_of, open_of, lookup_of, show_part_of}
+use Rattle.directory.specs.Answers.{found_numbers}
+use Rattle.directory.specs.Calls.{header_of, open_of, lookup_of, lookup_numbers_of, show_part_of}
 use Rattle.records.specs.Standing.{most_bytes}
+use Rattle.reader.proofs.Papers.{lookup_given}
 
 module _ (f : List ℕ) where
   -- ---- the header refuses
@@ -58,6 +60,10 @@ module _ (f : List ℕ) where
       pub lookup_wrong : (length t ≡ 0) ⊎ (most_bytes < length t) → found.Refused 16 0 ≡ lookup_of f t
       unfolding lookup_of lookup lookup_refusals
       lookup_wrong w = rw header_read (sym (first_past _ found.Refused (header_refusals HD (headed n r v) f) _ header_passed ∙ first_one _ found.Refused _ [] ((length_wrong most_bytes (length t)).1 w)))
+
+      -- .. and its numbers
+      pub lookup_wrong_numbers : (length t ≡ 0) ⊎ (most_bytes < length t) → found_numbers (found.Refused 16 0) ≡ lookup_numbers_of f t
+      lookup_wrong_numbers w = (lookup_given f t (lookup_wrong w)).1
 
       pub lookup-found : 1 ≤ length t → length t ≤ most_bytes → found_by HD (headed n r v) f t (lead_in HD (headed n r v) f t) ≡ lookup_of f t
       unfolding lookup_of lookup lookup_refusals

@@ -9,12 +9,12 @@ use Rattle.directory.specs.Kind.{HD}
 use Rattle.directory.specs.Bytes.{marked}
 use Rattle.directory.specs.Refusals.{first}
 use Rattle.directory.specs.File.{header_length, header_in}
-use Rattle.directory.specs.WholeLaws.{sized_true}
+use Rattle.directory.proofs.WholeLaws.{sized_true}
 use Rattle.directory.specs.Opening.{header_refusals, opened_unless, header}
-use Rattle.directory.specs.OpeningLaws.{header-opened}
+use Rattle.directory.proofs.OpeningLaws.{header-opened}
 use Rattle.directory.specs.Calls.{length_of, header_of}
 use Rattle.records.specs.Standing.{key_from}
-use Rattle.records.specs.StandingLaws.{length_from}
+use Rattle.records.proofs.StandingLaws.{length_from}
 
 -- ---- the length of a file
 

@@ -3,14 +3,14 @@ use Rattle.std.specs.Prelude.{◌≡◌, ◌⊎◌, List, ℕ, ◌+◌, ◌-◌,
 use Rattle.std.proofs.Common.{arith, lt-ltb, le-ltb}
 use Rattle.directory.specs.declared.Part.{Part}
 use Rattle.directory.specs.Sizes.{headed}
-use Rattle.directory.specs.CodesLaws.{length_wrong, length-right}
+use Rattle.directory.proofs.CodesLaws.{length_wrong, length-right}
 use Rattle.directory.specs.Kind.{HD}
 use Rattle.directory.specs.File.{key_length}
 use Rattle.directory.specs.Showing.{empty_part, bytes_of, key_part}
-use Rattle.directory.specs.ShowingLaws.{part_within}
+use Rattle.directory.proofs.ShowingLaws.{part_within}
 use Rattle.directory.specs.Calls.{show_part_of}
 use Rattle.records.specs.Standing.{most_bytes, code_from}
-use Rattle.records.specs.StandingLaws.{code_from_lem}
+use Rattle.records.proofs.StandingLaws.{code_from_lem}
 
 module _ (n r v : ℕ) (f : List ℕ) (l : ℕ) where
   pub part_past : n ≤ l → empty_part ≡ key_part HD (headed n r v) f l

@@ -5,7 +5,7 @@ use Rattle.directory.specs.declared.Opening.{Opening}
 use Rattle.directory.specs.declared.Found.{Found}
 use Rattle.directory.specs.Answers.{opening_numbers, found_numbers}
 use Rattle.directory.specs.Calls.{header_of, open_of, lookup_of, header_numbers_of, open_numbers_of, lookup_numbers_of}
-use Rattle.directory.specs.NumberLaws.{header_paper, open_paper, lookup_paper}
+use Rattle.directory.proofs.NumberLaws.{header_paper, open_paper, lookup_paper}
 
 pub header_given : (f : List ℕ) {o : Opening} → o ≡ header_of f → (o ≡ header_of f) × (opening_numbers o ≡ header_numbers_of f)
 header_given f e = (e, ap opening_numbers e ∙ header_paper f)
