@@ -1,3 +1,2 @@
-pub mod Steps
-pub mod StructLaws
-pub mod Answer
+pub mod HeldLaws
+pub mod OneThing

@@ -1,4 +1,6 @@
 // The opened directory as one thing that refers to the file's bytes: the file's slice with its n, r and v. Looking up and showing take it apart and look at the bytes themselves, whatever its numbers say.
+#![tactic(auto)]
+
 pub mod numbering; // numbering.rt: n, r and v by themselves
 
 ghost use Rattle.std.specs.Prelude.{◌≡◌};
@@ -12,7 +14,7 @@ use directory::{Found, Opening};
 use reader::{lookup, open, show};
 
 // The file's slice with its numbers.
-#[derive(Drop)]
+#[derive(Clone, Copy)]
 pub struct Opened<'a> {
     pub file: &'a [u8],
     pub n: usize,

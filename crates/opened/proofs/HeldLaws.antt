@@ -4,7 +4,7 @@ use Rattle.std.proofs.Common.{arith}
 use Rattle.directory.specs.declared.Opening.{Opening}
 use Rattle.directory.specs.declared.Opening.TheVariants.{Opened, Refused}
 use Rattle.directory.specs.Calls.{open_of}
-use Rattle.directory.specs.EveryFile.{opens_exactly_if_whole}
+use Rattle.directory.proofs.EveryFile.{opens_exactly_if_whole}
 use Rattle.opened.specs.Held.{numbered, numbers_of}
 
 module _ (f : List ℕ) where

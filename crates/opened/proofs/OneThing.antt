@@ -7,11 +7,11 @@ use Rattle.directory.specs.declared.Found.{Found}
 use Rattle.directory.specs.Showing.{IsPart}
 use Rattle.directory.specs.Answers.{found_numbers}
 use Rattle.directory.specs.Calls.{open_of, lookup_of, lookup_numbers_of, show_part_of}
-use Rattle.directory.specs.Demands.{looking_up_is_decided, showing_is_decided}
+use Rattle.directory.proofs.Demands.{looking_up_is_decided, showing_is_decided}
 use Rattle.opened.specs.declared.numbering.Numbers.{Numbers}
 use Rattle.opened.specs.declared.Opened.{Opened}
 use Rattle.opened.specs.Held.{numbers_of, held}
-use Rattle.opened.specs.HeldLaws.{numbers-opened, numbers_refused, arity_0, opened-numbers}
+use Rattle.opened.proofs.HeldLaws.{numbers-opened, numbers_refused, arity_0, opened-numbers}
 
 -- a file is held
 module _ (file : Bor (List ℕ)) (d : Opened) (h : d ≡ held file) where
