@@ -1,4 +1,6 @@
 // The sign: the level and the time of each line's last report, in lists that the caller lends. It stands on looking up alone.
+#![tactic(auto)]
+
 mod levels; // levels.rt: the range of levels, and their bits
 mod places; // places.rt: numbers in the places of a list, four bytes each
 mod rules; // rules.rt: what a line's last report makes of a report and of a question
@@ -12,14 +14,14 @@ pub use levels::{HIGHEST_LEVEL, LOWEST_LEVEL};
 pub use places::PLACE;
 
 // The last accepted report of a line: its level and its time.
-#[derive(Drop)]
+#[derive(Clone, Copy)]
 pub enum Last {
     NeverHeard,
     Heard(i32, u32),
 }
 
 // Reporting: the line that was renewed, no line, or a refusal's number and place.
-#[derive(Drop)]
+#[derive(Clone, Copy)]
 pub enum Reported {
     Accepted(usize),
     Unknown,
@@ -27,7 +29,7 @@ pub enum Reported {
 }
 
 // Asking: never heard, fresh with the level, stale with level and age, no line, or a refusal's number and place.
-#[derive(Drop)]
+#[derive(Clone, Copy)]
 pub enum Answer {
     Never,
     Fresh(i32),

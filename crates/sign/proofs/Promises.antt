@@ -5,7 +5,7 @@ use Rattle.directory.specs.declared.Opening.TheVariants as opening
 use Rattle.directory.specs.declared.Found.TheVariants as found
 use Rattle.directory.specs.Refusals.{NoneApplies, Given}
 use Rattle.directory.specs.Calls.{open_of, lookup_of}
-use Rattle.directory.specs.EveryFile.{what_opens_has_its_header}
+use Rattle.directory.proofs.EveryFile.{what_opens_has_its_header}
 use Rattle.sign.specs.declared.Last.TheVariants.{Heard}
 use Rattle.sign.specs.declared.Reported.{Reported}
 use Rattle.sign.specs.declared.Reported.TheVariants as reported
@@ -14,15 +14,15 @@ use Rattle.sign.specs.declared.Answer.TheVariants as answer
 use Rattle.sign.specs.Levels.{in_range}
 use Rattle.sign.specs.Rules.{Report, Question, limit_allowed, judged}
 use Rattle.sign.specs.Keeping.{Lists, heard_at, cleared}
-use Rattle.sign.specs.KeepingLaws.{OwnPlaceAlone}
+use Rattle.sign.proofs.KeepingLaws.{OwnPlaceAlone}
 use Rattle.sign.specs.Calls.{report_of, after_report, ask_of}
 use Rattle.sign.specs.Refusing.{report_table, ask_table}
-use Rattle.sign.specs.RefusingLaws.{report_refused_given, report_accepted_exactly, report_unknown_exactly, ask_refused_given, ask_unknown_exactly}
-use Rattle.sign.specs.AnyListsLaws.{not-kept, accepted_own, ask_heard}
+use Rattle.sign.proofs.RefusingLaws.{report_refused_given, report_accepted_exactly, report_unknown_exactly, ask_refused_given, ask_unknown_exactly}
+use Rattle.sign.proofs.AnyListsLaws.{not-kept, accepted_own, ask_heard}
 use Rattle.sign.specs.Trace.{Call, log, after, sign, nothing, plain}
-use Rattle.sign.specs.TraceLaws.{log-same, cleared_stands}
+use Rattle.sign.proofs.TraceLaws.{log-same, cleared_stands}
 use Rattle.sign.specs.History.{Entry, NoneAccepted, LastAccepted}
-use Rattle.sign.specs.PromiseLaws as laws
+use Rattle.sign.proofs.PromiseLaws as laws
 
 -- ---- any file and any lists
 

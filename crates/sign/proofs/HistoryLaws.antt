@@ -4,7 +4,7 @@ use Rattle.std.proofs.Common.{sym, ◌∙◌, inl, inr, ⊎_elim, arith}
 use Rattle.std.specs.Prelude.{◌⊎◌, Bool, true, false, ℕ, ℤ}
 use Rattle.std.proofs.Math.Bool.{cond}
 use mathlib.Core.List.{List, [], ◌∷◌, ◌++◌}
-use Rattle.counting.specs.ListsLaws.{same_equal, same_self}
+use Rattle.counting.proofs.ListsLaws.{same_equal, same_self}
 use Rattle.sign.specs.declared.Last.{Last}
 use Rattle.sign.specs.declared.Last.TheVariants.{NeverHeard, Heard}
 use Rattle.sign.specs.declared.Reported.{Reported}

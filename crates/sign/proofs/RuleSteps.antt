@@ -15,6 +15,11 @@ use Rattle.sign.specs.Levels.{in_range}
 use Rattle.sign.specs.Rules.{told, answered}
 use Rattle.sign.specs.Calls.{checks, gated, entered}
 
+-- what is not heard was never heard
+pub unheard : (last : Last) → ((level : ℤ) (time : ℕ) → last ≢ Heard level time) → last ≡ NeverHeard
+unheard NeverHeard other = refl
+unheard (Heard level time) other = absurd (other level time refl)
+
 -- ---- a report
 
 module _ (line : ℕ) (z : ℤ) (t : ℕ) where

@@ -8,7 +8,7 @@ use native.Mathlib.Omega.{arith}
 use Rattle.directory.specs.declared.Found.{Found}
 use Rattle.directory.specs.declared.Found.TheVariants.{At, Unknown, Refused}
 use Rattle.directory.specs.Refusals.{Refusal, first, NoneApplies, Given}
-use Rattle.directory.specs.RefusalLaws.{first_none, first_is, first_refused, first-after}
+use Rattle.directory.proofs.RefusalLaws.{first_none, first_is, first_refused, first-after}
 use Rattle.directory.specs.Calls.{lookup_of}
 use Rattle.sign.specs.declared.Last.{Last}
 use Rattle.sign.specs.declared.Last.TheVariants.{NeverHeard, Heard}

@@ -4,7 +4,7 @@ use Rattle.std.proofs.Common.{sym, ap, subst, ◌∙◌, arith, leb-true, ltb-tr
 use Rattle.std.specs.Int.Signed.{mag, lt_z, le_z}
 use Rattle.std.specs.Int.{w32}
 use Rattle.std.proofs.Math.Facts.{to_z_pos}
-use Rattle.counting.specs.TestLaws.{and_left, and_right}
+use Rattle.counting.proofs.TestLaws.{and_left, and_right}
 use Rattle.sign.specs.Levels.{lowest_level, highest_level, in_range, twos, from_twos}
 
 -- ---- a number, its bits, and the number of these

@@ -8,16 +8,16 @@ use Rattle.directory.specs.declared.Opening.TheVariants as opening
 use Rattle.directory.specs.declared.Found.{Found}
 use Rattle.directory.specs.declared.Found.TheVariants.{At, Unknown, Refused}
 use Rattle.directory.specs.Refusals.{NoneApplies}
-use Rattle.directory.specs.RefusalLaws.{first_is}
+use Rattle.directory.proofs.RefusalLaws.{first_is}
 use Rattle.directory.specs.Calls.{header_of, lookup_of}
-use Rattle.directory.specs.EveryFile.{a_line_that_is_given_is_below_the_headers_n, a_refused_header_is_refused_to_every_code}
+use Rattle.directory.proofs.EveryFile.{a_line_that_is_given_is_below_the_headers_n, a_refused_header_is_refused_to_every_code}
 use Rattle.sign.specs.declared.Last.{Last}
 use Rattle.sign.specs.declared.Reported.{Reported}
 use Rattle.sign.specs.declared.Reported.TheVariants as reported
 use Rattle.sign.specs.declared.Answer.TheVariants as answer
 use Rattle.sign.specs.Rules.{Report, Question, report_refusals, told, answered, limit_allowed}
 use Rattle.sign.specs.Keeping.{Lists, fits, Room, last_at, keep, kept}
-use Rattle.sign.specs.KeepingLaws.{fits_room}
+use Rattle.sign.proofs.KeepingLaws.{fits_room}
 use Rattle.sign.specs.Calls.{lines_of, lines_in, checks, gated, entered, on_line, report_of, after_report, ask_of}
 
 -- ---- a line that is given is one of the file's lines

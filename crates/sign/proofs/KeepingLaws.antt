@@ -1,12 +1,12 @@
 -- The lists keep the last reports: what is kept at a line is what was put there, other lines stay, and cleared lists were never heard. Assumes nothing.
 use Rattle.std.specs.Prelude.{◌≡◌, refl, ◌≢◌, Bool, true, false, ◌&&◌, ℕ, ◌/◌, ◌<◌, ℤ, pos, length, get_or}
 use Rattle.std.proofs.Common.{arith, eqb-true, eq-eqb, ltb-true, lt-ltb}
-use Rattle.counting.specs.TestLaws.{and_left, and_right, and_both}
+use Rattle.counting.proofs.TestLaws.{and_left, and_right, and_both}
 use Rattle.sign.specs.declared.Last.TheVariants.{NeverHeard, Heard}
 use Rattle.sign.specs.Levels.{in_range, twos}
-use Rattle.sign.specs.LevelLaws.{level_back, range_bits}
+use Rattle.sign.proofs.LevelLaws.{level_back, range_bits}
 use Rattle.sign.specs.Places.{place_bytes, place_at, number_at, filled}
-use Rattle.sign.specs.PlaceLaws.{length-with, byte_stays, number_same, number-other, length-filled, number-filled}
+use Rattle.sign.proofs.PlaceLaws.{length-with, byte_stays, number_same, number-other, length-filled, number-filled}
 use Rattle.sign.specs.Rules.{last_of}
 use Rattle.sign.specs.Keeping.{Lists, long_enough, fits, Room, last_at, has_place, heard_at, keep, cleared}
 

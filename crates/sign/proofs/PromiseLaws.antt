@@ -5,7 +5,7 @@ use Rattle.std.proofs.Common.{◌∙◌, arith, ltb-false, le-ltb}
 use Rattle.std.proofs.Math.Bool.{true, false}
 use Prim.Native.Nat.{ℕ, ◌+◌, ◌-◌, ◌≤◌, ◌<◌}
 use Rattle.counting.specs.Lists.{same}
-use Rattle.counting.specs.ListsLaws.{same_equal}
+use Rattle.counting.proofs.ListsLaws.{same_equal}
 use Rattle.directory.specs.declared.Opening.TheVariants as opening
 use Rattle.directory.specs.declared.Found.{Found}
 use Rattle.directory.specs.declared.Found.TheVariants.{At, Unknown, Refused}
@@ -18,19 +18,19 @@ use Rattle.sign.specs.declared.Answer.{Answer}
 use Rattle.sign.specs.declared.Answer.TheVariants as answer
 use Rattle.sign.specs.Rules.{Report, Question, before_last, told, answered, limit_allowed}
 use Rattle.sign.specs.Levels.{in_range}
-use Rattle.sign.specs.RuleSteps.{answered_never, answered-fresh, answered_stale, Passes, enter_found}
+use Rattle.sign.proofs.RuleSteps.{answered_never, answered-fresh, answered_stale, Passes, enter_found}
 use Rattle.sign.specs.Keeping.{Lists, heard_at, cleared}
-use Rattle.sign.specs.KeepingLaws.{heard-fits}
+use Rattle.sign.proofs.KeepingLaws.{heard-fits}
 use Rattle.sign.specs.Calls.{lines_in, entered, on_line, report_of, after_report, ask_of}
-use Rattle.sign.specs.CallSteps.{line-below, entered_in}
-use Rattle.sign.specs.RuleLaws.{told-accepted, never_of, fresh_of, stale_of}
-use Rattle.sign.specs.RefusingLaws.{report_accepted_exactly}
+use Rattle.sign.proofs.CallSteps.{line-below, entered_in}
+use Rattle.sign.proofs.RuleLaws.{told-accepted, never_of, fresh_of, stale_of}
+use Rattle.sign.proofs.RefusingLaws.{report_accepted_exactly}
 use Rattle.sign.specs.Trace.{Call, log, after, sign_reply, sign_next, sign, Map, nothing, map_report, map_ask, plain}
 use Rattle.sign.specs.Trace.Call.{report, ask}
 use Rattle.sign.specs.Trace.Reply.{reported, asked}
-use Rattle.sign.specs.TraceLaws.{Stands, report_same, ask_same, log-same, after_stands, cleared_stands}
+use Rattle.sign.proofs.TraceLaws.{Stands, report_same, ask_same, log-same, after_stands, cleared_stands}
 use Rattle.sign.specs.History.{Entry, accepts, NoneAccepted, LastAccepted}
-use Rattle.sign.specs.HistoryLaws.{last_in, map_last, last_none, last_is, heard-last, never_none}
+use Rattle.sign.proofs.HistoryLaws.{last_in, map_last, last_none, last_is, heard-last, never_none}
 
 -- ---- a report that was accepted is of a listed code
 

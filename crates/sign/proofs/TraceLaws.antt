@@ -6,14 +6,14 @@ use Rattle.std.proofs.Math.Bool.{true, false, cond}
 use mathlib.Core.List.{List, [], ◌∷◌}
 use Rattle.std.proofs.lemmas.Bool.{not-false}
 use Rattle.counting.specs.Lists.{same}
-use Rattle.counting.specs.ListsLaws.{same_equal, same_self}
-use Rattle.counting.specs.TestLaws.{clash}
+use Rattle.counting.proofs.ListsLaws.{same_equal, same_self}
+use Rattle.counting.proofs.TestLaws.{clash}
 use Rattle.directory.specs.declared.Opening.TheVariants as opening
 use Rattle.directory.specs.declared.Found.{Found}
 use Rattle.directory.specs.declared.Found.TheVariants.{At, Unknown, Refused}
-use Rattle.directory.specs.RefusalLaws.{first_is}
+use Rattle.directory.proofs.RefusalLaws.{first_is}
 use Rattle.directory.specs.Calls.{header_of, lookup_of}
-use Rattle.directory.specs.EveryFile.{a_line_that_is_given_stores_the_code}
+use Rattle.directory.proofs.EveryFile.{a_line_that_is_given_stores_the_code}
 use Rattle.sign.specs.declared.Last.{Last}
 use Rattle.sign.specs.declared.Last.TheVariants.{Heard}
 use Rattle.sign.specs.declared.Reported.{Reported}
@@ -22,9 +22,9 @@ use Rattle.sign.specs.declared.Answer.TheVariants as answer
 use Rattle.sign.specs.Levels.{in_range}
 use Rattle.sign.specs.Rules.{Report, Question, report_refusals, told, answered, limit_allowed}
 use Rattle.sign.specs.Keeping.{Lists, fits, last_at, keep, kept, cleared}
-use Rattle.sign.specs.KeepingLaws.{fits_room, kept-fits, kept_same, kept-other, cleared-fits, cleared_never}
+use Rattle.sign.proofs.KeepingLaws.{fits_room, kept-fits, kept_same, kept-other, cleared-fits, cleared_never}
 use Rattle.sign.specs.Calls.{lines_of, lines_in, entered, on_line, report_of, after_report, ask_of}
-use Rattle.sign.specs.CallSteps.{line-below, entered_in, told_line}
+use Rattle.sign.proofs.CallSteps.{line-below, entered_in, told_line}
 use Rattle.sign.specs.Trace.{Call, Reply, log, after, sign_reply, sign_next, sign, Map, nothing, with, accepted, map_report, map_ask, map_reply, map_next, plain}
 
 -- ---- what the sign needs of the directory: no line is given to two codes

@@ -5,18 +5,18 @@ use Rattle.std.proofs.lemmas.Bool.{not-false}
 use Rattle.directory.specs.declared.Found.{Found}
 use Rattle.directory.specs.declared.Found.TheVariants.{At}
 use Rattle.directory.specs.Refusals.{Refusal, NoneApplies}
-use Rattle.directory.specs.RefusalLaws.{none_right}
+use Rattle.directory.proofs.RefusalLaws.{none_right}
 use Rattle.directory.specs.Calls.{lookup_of}
 use Rattle.sign.specs.declared.Last.{Last}
 use Rattle.sign.specs.declared.Reported.{Reported}
 use Rattle.sign.specs.declared.Reported.TheVariants as told
 use Rattle.sign.specs.Rules.{Report, Question, report_refusals, ask_refusals, judged, limit_allowed}
 use Rattle.sign.specs.Keeping.{Lists, fits, last_at, heard_at, kept}
-use Rattle.sign.specs.KeepingLaws.{fits_room, heard-fits, OwnPlaceAlone, kept_own}
+use Rattle.sign.proofs.KeepingLaws.{fits_room, heard-fits, OwnPlaceAlone, kept_own}
 use Rattle.sign.specs.Calls.{lines_in, checks, report_of, after_report, ask_of}
-use Rattle.sign.specs.CallSteps.{line-below}
+use Rattle.sign.proofs.CallSteps.{line-below}
 use Rattle.sign.specs.Refusing.{lookup_refusal, in_order, report_table, ask_table}
-use Rattle.sign.specs.RefusingLaws.{report_accepted_exactly, ask_judged}
+use Rattle.sign.proofs.RefusingLaws.{report_accepted_exactly, ask_judged}
 
 -- ---- a report that is not accepted changes no byte, whatever the file and the lists
 

@@ -7,14 +7,13 @@ use native.Mathlib.Omega.{arith}
 use borrow.Author.Tests.{ltb-false, leb-true, leb-false, not-false}
 use Rattle.std.proofs.Math.Dec.{ltb, leb}
 use Rattle.directory.specs.Refusals.{first}
-use Rattle.directory.specs.RefusalLaws.{first_none, first_is}
+use Rattle.directory.proofs.RefusalLaws.{first_none, first_is}
 use Rattle.sign.specs.declared.Last.{Last}
 use Rattle.sign.specs.declared.Last.TheVariants.{NeverHeard, Heard}
 use Rattle.sign.specs.declared.Reported.TheVariants as reported
 use Rattle.sign.specs.Levels.{in_range}
 use Rattle.sign.specs.declared.Answer.TheVariants as answer
 use Rattle.sign.specs.Rules.{before_last, report_refusals, told, answered}
-use Rattle.sign.specs.Trace.Reply.{reported}
 
 -- ---- a report that is accepted: its level is in range, and its time is not before the last
 
