@@ -1,4 +1,6 @@
 // Bytes stored one after the other in a buffer that the caller lends. Each function returns the place past what it wrote.
+#![tactic(auto)]
+
 ghost use Rattle.std.specs.Prelude.{[], ◌∷◌, ◌+◌, ◌<◌, ◌≤◌, length};
 ghost use Rattle.counting.specs.Wrote.{Wrote};
 
