@@ -1,5 +1,1 @@
 pub mod Ready
-pub mod ValueSteps
-pub mod FrontSteps
-pub mod KeySteps
-pub mod FileSteps

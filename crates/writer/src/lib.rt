@@ -1,4 +1,6 @@
 // The file of a built directory, written into a buffer that the caller lends.
+#![tactic(auto)]
+
 mod numbers; // numbers.rt: marks and numbers
 mod values; // values.rt: the values, four to a byte
 mod front; // front.rt: the records before KY

@@ -3,7 +3,7 @@ use Rattle.std.specs.Prelude.{◌≡◌, List, [], ◌∷◌, ℕ, ◌+◌, ◌*
 use Rattle.std.proofs.Math.Path.{ap}
 use Rattle.counting.specs.Holds.{Holds}
 use Rattle.counting.specs.Lists.{each}
-use Rattle.counting.specs.EachLaws.{each_equal}
+use Rattle.counting.proofs.EachLaws.{each_equal}
 use Rattle.graph.specs.Assignment.{rank_entry}
 use Rattle.directory.specs.Sizes.{Header, vertex_count, rank_entries}
 use Rattle.directory.specs.Bytes.{two, WT, GV, RK, under}

@@ -3,16 +3,16 @@ use Rattle.std.specs.Prelude.{◌≡◌, List, ◌++◌, ℕ, ◌≤◌, ◌<◌
 use Rattle.std.proofs.Common.{ap, ◌∙◌, arith}
 use Rattle.counting.specs.Lists.{each}
 use Rattle.counting.specs.Wrote.{Wrote}
-use Rattle.counting.specs.WroteLaws.{wrote_whole, wrote_named}
+use Rattle.counting.proofs.WroteLaws.{wrote_whole, wrote_named}
 use Rattle.directory.specs.Sizes.{Header, headed}
 use Rattle.directory.specs.Codes.{code}
-use Rattle.directory.specs.CodesLaws.{code-length}
+use Rattle.directory.proofs.CodesLaws.{code-length}
 use Rattle.directory.specs.Kind.{HD}
 use Rattle.directory.specs.Values.{value_record, rank_record, table_records}
 use Rattle.directory.specs.File.{header_record, weight_record, key_record, file, file_length}
-use Rattle.directory.specs.FileLaws.{file-size}
+use Rattle.directory.proofs.FileLaws.{file-size}
 use Rattle.records.specs.Standing.{key_from}
-use Rattle.records.specs.StandingLaws.{length_from}
+use Rattle.records.proofs.StandingLaws.{length_from}
 use Rattle.writer.specs.Ready.{file_in, Ready}
 
 module _ {r v : ℕ} {weights values rank run ends keys buffer : List ℕ} (ready : Ready r v weights values rank run ends keys buffer) where

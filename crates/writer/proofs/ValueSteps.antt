@@ -3,7 +3,7 @@ use Rattle.std.specs.Prelude.{◌≡◌, ℕ, ◌+◌, ◌*◌, ◌%◌, ◌^◌
 use Rattle.std.proofs.Common.{sym, ◌∙◌, add_comm, arith}
 use Rattle.std.specs.Int.Bits.{bit_or, or_shifted_r}
 use Rattle.directory.specs.Values.{packed, spare_zero}
-use Rattle.directory.specs.ValueLaws.{spare_zero-vertex}
+use Rattle.directory.proofs.ValueLaws.{spare_zero-vertex}
 
 -- bits that stand above those of a lower number are added to it
 or_above : (bits x low : ℕ) → low < 2 ^ bits → bit_or low (x * 2 ^ bits) ≡ low + x * 2 ^ bits

@@ -4,7 +4,7 @@ use Rattle.std.proofs.Common.{ap, ◌∙◌, arith}
 use Rattle.std.proofs.Math.Numerals.{unary_clauses}
 use Rattle.std.proofs.lemmas.List.{length-replicate}
 use Rattle.counting.specs.Wrote.{Wrote}
-use Rattle.counting.specs.WroteLaws.{wrote_whole}
+use Rattle.counting.proofs.WroteLaws.{wrote_whole}
 
 drop-replicate : (i k x : ℕ) → drop i (replicate k x) ≡ replicate (k - i) x
 drop-replicate zero k x = simp unary_clauses

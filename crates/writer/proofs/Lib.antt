@@ -1,0 +1,4 @@
+pub mod ValueSteps
+pub mod FrontSteps
+pub mod KeySteps
+pub mod FileSteps
