@@ -1,4 +1,6 @@
 // Building a directory: the refusals in their order, the graph of the codes, and, once all is decided, the file at the start of the lent buffer.
+#![tactic(auto)]
+
 mod lending; // lending.rt: what is lent, the refusals 1 to 6
 mod arranging; // arranging.rt: the graph of the codes: the number left, the values, the rank entries, the lines
 mod deciding; // deciding.rt: the refusals 7 and 8, or the file

@@ -3,14 +3,14 @@ use Rattle.std.specs.Prelude.{refl, List, ℕ, ◌*◌, ◌≤◌, length, get_o
 use Rattle.std.proofs.Math.Path.{sym}
 use Rattle.std.proofs.Common.{◌∙◌, mul-le-mul, arith}
 use Rattle.graph.specs.Agree.{Agree}
-use Rattle.graph.specs.AgreeLaws.{agree_number, agree_most, agree_values, agree_edge, agree_rank, agree_proper}
+use Rattle.graph.proofs.AgreeLaws.{agree_number, agree_most, agree_values, agree_edge, agree_rank, agree_proper}
 use Rattle.removal.specs.Arrays.{graph_in, Held}
 use Rattle.peeling.specs.Arranging.{Arranged}
 use Rattle.directory.specs.Sizes.{headed, most_codes}
 use Rattle.directory.specs.Codes.{code}
 use Rattle.directory.specs.Kind.{HD, vertex}
 use Rattle.directory.specs.Building.{lent, weight, code_of, graph}
-use Rattle.directory.specs.GraphLaws.{graph_proper}
+use Rattle.directory.proofs.GraphLaws.{graph_proper}
 use Rattle.directory.specs.Whole.{Sized}
 use Rattle.lists.specs.Listed.{Named}
 use Rattle.builder.specs.Graphs.{graph_of}

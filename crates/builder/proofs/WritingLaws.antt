@@ -3,15 +3,15 @@ use Rattle.std.specs.Prelude.{◌≡◌, refl, List, ℕ, ◌*◌, ◌<◌, leng
 use Rattle.std.proofs.Math.Path.{sym, ap}
 use Rattle.std.proofs.Common.{◌∙◌, arith}
 use Rattle.std.proofs.Math.Seq.{length-take-le}
-use Rattle.counting.specs.HoldsLaws.{holds-take}
+use Rattle.counting.proofs.HoldsLaws.{holds-take}
 use Rattle.graph.specs.Assignment.{blocks, block_size, rank_entry, values, edge_of_line}
-use Rattle.graph.specs.RankLaws.{below_equal}
+use Rattle.graph.proofs.RankLaws.{below_equal}
 use Rattle.directory.specs.Sizes.{headed}
 use Rattle.directory.specs.Codes.{code}
 use Rattle.directory.specs.Kind.{HD}
 use Rattle.directory.specs.Building.{lent, weight, code_of, graph, key, file_of}
-use Rattle.directory.specs.FileWholeLaws.{edge_below, small}
-use Rattle.directory.specs.SameFileLaws.{same-file}
+use Rattle.directory.proofs.FileWholeLaws.{edge_below, small}
+use Rattle.directory.proofs.SameFileLaws.{same-file}
 use Rattle.writer.specs.Ready.{Ready, file_in}
 use Rattle.builder.specs.Graphs.{graph_of, Settled}
 

@@ -5,8 +5,8 @@ use Rattle.std.proofs.Common.{ap, ◌∙◌, arith}
 use Rattle.std.proofs.Math.Bool.{not}
 use borrow.Author.Tests.{eq-eqb, ne_eqb, lt-ltb, le-ltb}
 use Rattle.counting.specs.Below.{lowest}
-use Rattle.counting.specs.TestLaws.{and_both}
-use Rattle.counting.specs.SearchLaws.{lowest-found, lowest_missed}
+use Rattle.counting.proofs.TestLaws.{and_both}
+use Rattle.counting.proofs.SearchLaws.{lowest-found, lowest_missed}
 use Rattle.graph.specs.Peeling.{number_left}
 use Rattle.graph.specs.Waiting.{most_waiting}
 use Rattle.directory.specs.declared.Built.{Built}
@@ -15,17 +15,17 @@ use Rattle.directory.specs.Sizes.{most_codes, arity_allowed, part_allowed, codes
 use Rattle.directory.specs.Codes.{code, wrong_code, run_missed, repeated}
 use Rattle.directory.specs.Kind.{HD}
 use Rattle.directory.specs.Refusals.{first, NoneApplies}
-use Rattle.directory.specs.RefusalLaws.{given_more, first_past, first_none, first_is, first_given}
+use Rattle.directory.proofs.RefusalLaws.{given_more, first_past, first_none, first_is, first_given}
 use Rattle.directory.specs.Building.{Lent, code_of, graph, length_needed, lent_refusals, graph_refusals, build_refusals, build, buffer_after}
-use Rattle.directory.specs.RepeatedLaws.{none_repeated}
+use Rattle.directory.proofs.RepeatedLaws.{none_repeated}
 use Rattle.directory.specs.Lending.{WithinLimits}
-use Rattle.directory.specs.LendingLaws.{limits}
-use Rattle.directory.specs.BuildingLaws.{build_refused, after_refused}
-use Rattle.directory.specs.NumberLaws.{build_paper}
+use Rattle.directory.proofs.LendingLaws.{limits}
+use Rattle.directory.proofs.BuildingLaws.{build_refused, after_refused}
+use Rattle.directory.proofs.NumberLaws.{build_paper}
 use Rattle.directory.specs.Answers.{built_numbers}
 use Rattle.directory.specs.Calls.{build_of, buffer_after_of, build_numbers_of}
 use Rattle.records.specs.Standing.{Room}
-use Rattle.records.specs.FramedLaws.{allowed_room}
+use Rattle.records.proofs.FramedLaws.{allowed_room}
 use Rattle.builder.specs.declared.lending.Lending.{Lending}
 use Rattle.builder.specs.declared.lending.Lending.TheVariants as lending
 use Rattle.builder.specs.Decisions.{of_lent, of_graph, with_file, after_graph}

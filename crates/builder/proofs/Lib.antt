@@ -1,0 +1,3 @@
+pub mod GraphsLaws
+pub mod WritingLaws
+pub mod DecisionsLaws

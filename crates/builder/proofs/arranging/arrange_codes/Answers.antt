@@ -1,0 +1,24 @@
+-- What `builder::arranging::arrange_codes` owes: the edges make the graph of the list, no edge is on any vertex yet, and what is arranged for the edges is arranged for the list. Assumes nothing.
+use Rattle.std.proofs.Common.{[], arith, length}
+use Rattle.std.proofs.lemmas.List.{get_or-replicate}
+use Rattle.directory.specs.Sizes.{most_vertices}
+use Rattle.builder.proofs.GraphsLaws.{named_most, edges_held, arranged_list}
+use Rattle.builder.proofs.arranging.arrange_codes.Goals as goal
+
+pub arrange-requires-clause-held : goal.arrange-requires-clause-held
+arrange-requires-clause-held c =
+    let a = c.args in
+    let sizes = c.requires.sizes in
+    let room = named_most (length a.ends.now) a.r sizes.few sizes.three in
+    edges_held a.run.now a.ends.now a.r a.v a.weights.now [] _ c.name_edges.ensures sizes (omega (arith, room, c.name_edges.auto.edges))
+
+pub arrange-requires-clause-clear : goal.arrange-requires-clause-clear
+arrange-requires-clause-clear c =
+    let room = c.requires.sizes.room in
+    record {
+      no_degrees = λ x l. get_or-replicate most_vertices x 0 0 (omega (arith, room));
+      no_sums = λ x l. get_or-replicate most_vertices x 0 0 (omega (arith, room));
+    }
+
+pub returns : goal.returns
+returns c buffer = let a = c.args in arranged_list a.run.now a.ends.now a.r a.v a.weights.now buffer c.name_edges.new.edges c.name_edges.ensures c.arrange.ensures
