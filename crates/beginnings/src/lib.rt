@@ -1,4 +1,6 @@
 // The beginning of a list that is lent: its first so many entries, and all of them where there are fewer.
+#![tactic(auto)]
+
 ghost use Rattle.std.specs.Prelude.{◌≡◌, take};
 
 pub fn first_bytes(bytes: &[u8], count: usize) -> &[u8]
