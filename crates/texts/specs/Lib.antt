@@ -1,4 +1,3 @@
-pub mod AFewTexts
 pub mod Parts
 pub mod Lines
 pub mod Words
@@ -7,17 +6,4 @@ pub mod Levels
 pub mod Codes
 pub mod Reports
 pub mod Reading
-pub mod ListLaws
 pub mod Stops
-pub mod PartsLaws
-pub mod LineSteps
-pub mod WordSteps
-pub mod NumberSteps
-pub mod LevelLaws
-pub mod HexLaws
-pub mod CodeLaws
-pub mod ReportLaws
-pub mod PassedLaws
-pub mod CodesSteps
-pub mod WeightsSteps
-pub mod ReadLaws

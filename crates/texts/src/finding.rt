@@ -5,7 +5,7 @@ ghost use Rattle.texts.specs.Words.{is_blank as isBlankOf};
 ghost use Rattle.texts.specs.Stops.{stops_at};
 
 // What a search stops at: the end of a line, the end of a word, or the beginning of one.
-#[derive(Drop)]
+#[derive(Clone, Copy)]
 pub enum Stop {
     Newline,
     Blank,

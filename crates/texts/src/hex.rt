@@ -10,6 +10,7 @@ const SIXTEEN: u8 = 16;
 const TEN: u8 = 10;
 
 // The value of a digit, and 16 for what is none.
+#[tactic(auto, using(std::proofs::lemmas::Bool::Decides::nat_tests), unfolding(crate::specs::Codes::hex_value))]
 fn hex_value(b: u8) -> u8
     ensures { (result ≡ hex_value b) × (result ≤ no_digit) }
 {

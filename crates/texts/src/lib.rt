@@ -1,4 +1,6 @@
 // Codes, weights, numbers and reports out of text. What a text holds is laid down in specs/.
+#![tactic(auto)]
+
 mod finding; // finding.rt: where lines and words begin and end
 mod lines; // lines.rt: the lines of a text
 mod words; // words.rt: the words of a text
@@ -17,42 +19,42 @@ pub use reports::{MOST_TIME, read_report};
 pub use words::word;
 
 // A number from 0 to the largest that is allowed, or a word that is none.
-#[derive(Drop)]
+#[derive(Clone, Copy)]
 pub enum Number {
     Is(u32),
     Wrong,
 }
 
 // A level in millimetres, or a word that is none.
-#[derive(Drop)]
+#[derive(Clone, Copy)]
 pub enum Level {
     Is(i32),
     Wrong,
 }
 
 // How many bytes are kept of the code of a line, or that the line is wrong.
-#[derive(Drop)]
+#[derive(Clone, Copy)]
 pub enum Code {
     Taken(usize),
     Wrong,
 }
 
 // How many codes a text has and how many bytes are kept of them in all, or its first line that is wrong.
-#[derive(Drop)]
+#[derive(Clone, Copy)]
 pub enum Codes {
     Read(usize, usize),
     Wrong(usize),
 }
 
 // How many weights a text has, or its first word that is no number.
-#[derive(Drop)]
+#[derive(Clone, Copy)]
 pub enum Weights {
     Read(usize),
     Wrong(usize),
 }
 
 // How many bytes are kept of a report's code, its level and its time; or a line that is no report.
-#[derive(Drop)]
+#[derive(Clone, Copy)]
 pub enum Report {
     Is(usize, i32, u32),
     Wrong,

@@ -6,6 +6,7 @@ ghost use Rattle.texts.specs.Lines.{is_newline, without_return, from_line, line 
 use crate::finding::{Stop, find};
 
 // A line without the carriage return just before its end.
+#[tactic(auto, using(std::proofs::lemmas::Bool::Decides::nat_tests), unfolding(crate::specs::Lines::without_return))]
 pub(crate) fn without_return(line: &[u8]) -> &[u8]
     ensures { result.now ≡ without_return line.now }
 {

@@ -1,0 +1,14 @@
+pub mod AFewTexts
+pub mod ListLaws
+pub mod PartsLaws
+pub mod LineSteps
+pub mod WordSteps
+pub mod NumberSteps
+pub mod LevelLaws
+pub mod HexLaws
+pub mod CodeLaws
+pub mod ReportLaws
+pub mod PassedLaws
+pub mod CodesSteps
+pub mod WeightsSteps
+pub mod ReadLaws
