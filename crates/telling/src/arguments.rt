@@ -1,0 +1,26 @@
+// The program's arguments, as the bytes that they are.
+ghost use Rattle.std.specs.Prelude.{◌≤◌, length};
+
+use std::env::FillError;
+use std::rt::Env;
+
+// Puts argument i at the start of a buffer and gives its length back: 0 where there is none, or where it is longer than the buffer.
+pub fn argument(rt: &impl Env, i: usize, buffer: &mut [u8]) -> usize
+    ensures { result ≤ length buffer.new }
+{
+    match rt.arg(i, buffer) {
+        Ok(length) => length,
+        Err(_) => 0,
+    }
+}
+
+// How many arguments there are, the program's own name among them.
+pub fn argument_count(rt: &impl Env) -> usize {
+    let mut first = [0u8; 1];
+    for i in 0..usize::MAX {
+        if let Err(FillError::NotPresent) = rt.arg(i, &mut first) {
+            return i;
+        }
+    }
+    usize::MAX
+}
