@@ -1,4 +1,7 @@
 // Files that the program's arguments name: read whole, and written whole or not at all. What fails is said on standard error.
+#![tactic(auto)]
+
+mod names; // names.rt: the name of a file
 mod reading; // reading.rt: a file or standard input, read
 mod writing; // writing.rt: a file, written
 
@@ -6,7 +9,7 @@ pub use reading::{read_argument, read_input};
 pub use writing::write_argument;
 
 // How many bytes were read, or that reading failed.
-#[derive(Drop)]
+#[derive(Clone, Copy)]
 pub enum Got {
     Bytes(usize),
     Failed,

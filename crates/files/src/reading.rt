@@ -3,24 +3,39 @@ ghost use Rattle.std.specs.Prelude.{◌<◌, length};
 ghost use Rattle.files.specs.Reading.{Within};
 
 use crate::Got;
-use libc::STDIN_FILENO;
+use crate::names::{name_argument, text_of};
+use std::fs;
+use std::io::{Input, Read};
+use std::rt::{Env, Files};
+use telling::{Tell, say_failed};
+
+// The most bytes of a name.
+const LONGEST_NAME: usize = 4_096;
 
 // One call: the bytes go to a place and after it.
-fn read_some(fd: i32, buffer: &mut [u8], at: usize) -> Got
+fn read_some(
+    rt: &impl Tell,
+    what: &[u8],
+    reader: &mut impl Read,
+    buffer: &mut [u8],
+    at: usize,
+) -> Got
     requires { at < length buffer.old }
     ensures { Within buffer.new at result }
 {
-    let got = libc::read(fd, &mut buffer[at..]);
-    if got < 0 {
-        return Got::Failed;
+    match reader.read(&mut buffer[at..]) {
+        Ok(more) => Got::Bytes(more),
+        Err(error) => {
+            say_failed(rt, what, error);
+            Got::Failed
+        }
     }
-    Got::Bytes(io::count(got, &buffer[at..]))
 }
 
-fn read_whole(fd: i32, buffer: &mut [u8]) -> Got {
+fn read_whole(rt: &impl Tell, what: &[u8], reader: &mut impl Read, buffer: &mut [u8]) -> Got {
     let mut done = 0;
     while done < buffer.len() {
-        let Got::Bytes(more) = read_some(fd, buffer, done) else {
+        let Got::Bytes(more) = read_some(rt, what, reader, buffer, done) else {
             return Got::Failed;
         };
         if more == 0 {
@@ -31,35 +46,29 @@ fn read_whole(fd: i32, buffer: &mut [u8]) -> Got {
     Got::Bytes(done)
 }
 
-fn read_path(path: &[u8], buffer: &mut [u8]) -> Got {
-    let fd = os::open_read(path);
-    if fd < 0 {
-        os::fail(path);
+fn read_path(rt: &(impl Files + Tell), path: &[u8], buffer: &mut [u8]) -> Got {
+    let Some(name) = text_of(rt, path) else {
         return Got::Failed;
+    };
+    match fs::open(rt, name) {
+        Ok(mut file) => read_whole(rt, path, &mut file, buffer),
+        Err(error) => {
+            say_failed(rt, path, error);
+            Got::Failed
+        }
     }
-    let got = read_whole(fd, buffer);
-    if let Got::Failed = got {
-        os::fail(path);
-    }
-    libc::close(fd);
-    got
 }
 
 // Reads the file that argument i names.
-pub fn read_argument(i: usize, buffer: &mut [u8]) -> Got {
-    let mut path = io::buffer();
-    let length = os::arg(i, &mut path);
-    if os::errno() != 0 {
-        os::fail(b"a file's name");
+pub fn read_argument(rt: &(impl Env + Files + Tell), i: usize, buffer: &mut [u8]) -> Got {
+    let mut path = [0u8; LONGEST_NAME];
+    let Some(length) = name_argument(rt, i, &mut path) else {
         return Got::Failed;
-    }
-    read_path(&path[..length], buffer)
+    };
+    read_path(rt, &path[..length], buffer)
 }
 
-pub fn read_input(buffer: &mut [u8]) -> Got {
-    let got = read_whole(STDIN_FILENO, buffer);
-    if let Got::Failed = got {
-        os::fail(b"standard input");
-    }
-    got
+pub fn read_input(rt: &(impl Input + Tell), buffer: &mut [u8]) -> Got {
+    let mut input = rt.reader();
+    read_whole(rt, b"standard input", &mut input, buffer)
 }

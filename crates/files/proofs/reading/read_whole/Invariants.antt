@@ -1,0 +1,9 @@
+-- What is left of the buffer falls. Assumes nothing.
+use Rattle.std.proofs.Common.{length, ◌-◌, ◌≡◌}
+use Rattle.files.proofs.reading.read_whole.Given as goal
+
+abbrev pub invariant-loop-done : goal.invariant-loop-done
+invariant-loop-done g l = length l.buffer ≡ length l.initial.buffer
+
+abbrev pub decreases-loop-done : goal.decreases-loop-done
+decreases-loop-done g l = length l.initial.buffer - l.done
