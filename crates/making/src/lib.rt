@@ -1,4 +1,6 @@
 // A directory out of two texts: the codes and the weights are read, and their directory is built.
+#![tactic(auto)]
+
 ghost use Rattle.std.specs.Prelude.{◌≡◌, ◌≤◌, length, take};
 ghost use Rattle.directory.specs.Building.{lent};
 ghost use Rattle.directory.specs.Calls.{build_of, buffer_after_of};
@@ -11,7 +13,7 @@ use directory::Built;
 use texts::{Codes, MOST_LINES, MOST_WORDS, Weights, read_codes, read_weights};
 
 // Done with so many codes; or the first line that holds no code, the first word that is no weight, or the refusal of building.
-#[derive(Drop)]
+#[derive(Clone, Copy)]
 pub enum Made {
     Done(usize),
     WrongLine(usize),

@@ -8,7 +8,7 @@ use Rattle.directory.specs.Calls.{build_of, buffer_after_of}
 use Rattle.texts.specs.declared.Codes.TheVariants as codes
 use Rattle.texts.specs.declared.Weights.TheVariants as weights
 use Rattle.texts.specs.Reading.{most_lines, most_run, most_words, run_of, ends_of, codes_of, values_of, weights_of}
-use Rattle.texts.specs.ReadLaws.{codes_read_lem, weights_read, run_first, ends_first, values-first}
+use Rattle.texts.proofs.ReadLaws.{codes_read_lem, weights_read, run_first, ends_first, values-first}
 use Rattle.making.specs.declared.Made.{Made}
 use Rattle.making.specs.declared.Made.TheVariants.{WrongLine, WrongWord}
 use Rattle.making.specs.Making.{after_building, lent_of, made_of, made_buffer}
