@@ -1,5 +1,1 @@
-pub mod TextLaws
-pub mod TextSteps
-pub mod LineLaws
 pub mod Text
-pub mod ListingLaws

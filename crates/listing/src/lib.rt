@@ -1,4 +1,6 @@
 // The lister's text, written into a buffer that the caller lends.
+#![tactic(auto)]
+
 mod numbers; // numbers.rt: numbers in decimal, codes in hex
 mod lines; // lines.rt: a listed line, and the line of a refusal
 

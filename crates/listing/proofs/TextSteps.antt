@@ -2,9 +2,9 @@
 use Rattle.std.proofs.Common.{ap, add-one, take-suc, take_all}
 use Rattle.std.specs.Prelude.{List, [], ◌∷◌, ℕ, ◌+◌, ◌/◌, ◌%◌, ◌≤◌, ◌<◌, length, get_or, take}
 use Rattle.counting.specs.Wrote.{Wrote}
-use Rattle.counting.specs.WroteLaws.{wrote_then, wrote_named}
+use Rattle.counting.proofs.WroteLaws.{wrote_then, wrote_named}
 use Rattle.directory.specs.Listing.{digit, hex}
-use Rattle.listing.specs.TextLaws.{hex-append}
+use Rattle.listing.proofs.TextLaws.{hex-append}
 
 pub wrote_hex-next : (t : List ℕ) (i : ℕ) {a b c : ℕ} {l m n : List ℕ}
     → i < length t

@@ -4,16 +4,16 @@ use Rattle.std.proofs.Common.{sym, ap, ⊎_elim, arith, length-take-le}
 use Rattle.directory.specs.declared.Opening.TheVariants.{Opened, Refused}
 use Rattle.directory.specs.Sizes.{most_codes}
 use Rattle.directory.specs.Kind.{HD}
-use Rattle.directory.specs.RefusalLaws.{first-after}
+use Rattle.directory.proofs.RefusalLaws.{first-after}
 use Rattle.directory.specs.File.{header_in}
 use Rattle.directory.specs.Opening.{open_refusals, opened_unless, opening}
-use Rattle.directory.specs.OpeningLaws.{opening-opened}
-use Rattle.directory.specs.ShowingLaws.{nothing-or-code, shown-length, shown_empty}
+use Rattle.directory.proofs.OpeningLaws.{opening-opened}
+use Rattle.directory.proofs.ShowingLaws.{nothing-or-code, shown-length, shown_empty}
 use Rattle.directory.specs.Listing.{listed_line, refused_line, listing}
 use Rattle.directory.specs.Calls.{open_of, show_of, listing_of}
 use Rattle.listing.specs.Text.{lines, text_of, longest_line, longest_listing, Counts}
-use Rattle.listing.specs.TextLaws.{decimal-length, hex-length}
-use Rattle.listing.specs.LineLaws.{listed_line-length, refused_line-length}
+use Rattle.listing.proofs.TextLaws.{decimal-length, hex-length}
+use Rattle.listing.proofs.LineLaws.{listed_line-length, refused_line-length}
 
 pub listing_text : (f : List ℕ) → listing_of f ≡ text_of f (open_of f)
 unfolding listing_of listing open_of opening opened_unless lines show_of

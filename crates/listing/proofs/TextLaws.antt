@@ -1,7 +1,7 @@
 -- Numbers and codes as text: a digit more, and how many there are. Assumes nothing.
 use Rattle.std.specs.Prelude.{◌≡◌, refl, List, [], ◌∷◌, ◌++◌, ℕ, zero, suc, ◌+◌, ◌*◌, ◌/◌, ◌%◌, ◌^◌, ◌≤◌, ◌<◌, length}
 use Rattle.std.proofs.Common.{sym, ap, ◌∙◌, ⊎_elim, arith, length-append, lt-ltb, le-ltb}
-use Rattle.counting.specs.TestLaws.{lt?}
+use Rattle.counting.proofs.TestLaws.{lt?}
 use Rattle.directory.specs.Listing.{digit, digits, decimal, hex}
 
 -- ---- decimal numbers

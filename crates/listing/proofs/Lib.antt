@@ -1,0 +1,4 @@
+pub mod TextLaws
+pub mod TextSteps
+pub mod LineLaws
+pub mod ListingLaws

@@ -1,0 +1,5 @@
+-- `listing::numbers::put_decimal`, which calls itself. The measure is the number: x / 10 is less.
+use Rattle.listing.proofs.numbers.+put_decimal.Given as goal
+
+abbrev pub decreases-put_decimal : goal.decreases-put_decimal
+decreases-put_decimal l = l.x
