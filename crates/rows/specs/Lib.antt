@@ -1,12 +1,4 @@
-pub mod AFewRows
 pub mod Filling
 pub mod Values
 pub mod Rows
 pub mod Signs
-pub mod FillingLaws
-pub mod ValueLaws
-pub mod SizeLaws
-pub mod RowLaws
-pub mod SignLaws
-pub mod Shown
-pub mod CodesApart

@@ -1,4 +1,6 @@
 // The rows of the sign, written into a buffer that the caller lends. What a row shows is laid down in specs/.
+#![tactic(auto)]
+
 mod filling; // filling.rt: a text filled with blanks to a width
 mod digits; // digits.rt: numbers of two and of three digits
 mod codes; // codes.rt: the column of codes
@@ -10,14 +12,14 @@ mod signs; // signs.rt: the whole sign
 pub use signs::{put_rows, sign_buffer};
 
 // Where the blanks go that fill a text to a width.
-#[derive(Drop)]
+#[derive(Clone, Copy)]
 pub enum Side {
     Left,
     Right,
 }
 
 // What a column shows: nothing, a level in millimetres, or an age in seconds.
-#[derive(Drop)]
+#[derive(Clone, Copy)]
 pub enum Value {
     Nothing,
     Level(i32),
@@ -25,7 +27,7 @@ pub enum Value {
 }
 
 // What a row shows of a line's last report: nothing, or its level and its age.
-#[derive(Drop)]
+#[derive(Clone, Copy)]
 pub enum Seen {
     Nothing,
     Report(i32, u32),
