@@ -1,34 +1,39 @@
 // Lists a directory file: reads the one that its argument names, or standard input without one, and writes a line for each code, or the line of a refusal.
+#![tactic(auto)]
+
 use beginnings::first_bytes;
 use files::{Got, read_argument, read_input};
-use libc::STDOUT_FILENO;
-use telling::say;
+use std::rt::{Env, Files};
+use telling::{Tell, argument_count, say, say_failed};
+
+// The longest file that is listed whole.
+const LONGEST_FILE: usize = 65_536;
 
 // How many arguments there are with a file's name, the program's own name among them, and its place.
 const ARGUMENTS: usize = 2;
 
 const FILE: usize = 1;
 
-fn read(file: &mut [u8]) -> Got {
-    let count = os::arg_count();
+fn read(rt: &(impl Env + Files + Input + Tell), file: &mut [u8]) -> Got {
+    let count = argument_count(rt);
     if count < ARGUMENTS {
-        return read_input(file);
+        return read_input(rt, file);
     }
     if ARGUMENTS < count {
-        say(b"usage: lister [FILE]\n");
+        say(rt, b"usage: lister [FILE]\n");
         return Got::Failed;
     }
-    read_argument(FILE, file)
+    read_argument(rt, FILE, file)
 }
 
-fn main() {
-    let mut file = io::large_buffer();
-    let Got::Bytes(length) = read(&mut file) else {
+fn main(rt: HostRuntime) {
+    let mut file = [0u8; LONGEST_FILE];
+    let Got::Bytes(length) = read(&rt, &mut file) else {
         return;
     };
     let mut text = listing::text_buffer();
     let size = listing::list(first_bytes(&file, length), &mut text);
-    if !io::write_all(STDOUT_FILENO, &text[..size]) {
-        os::fail(b"standard output");
+    if let Err(error) = rt.write_all(&text[..size]) {
+        say_failed(&rt, b"standard output", error);
     }
 }
