@@ -2,175 +2,172 @@
 use crate::levels::size_of;
 use crate::sums::Sums;
 use directory::{Built, Found, Opening, PlaceMeaning, RefusalGroup};
-use libc::STDOUT_FILENO;
 use sign::{Answer, Reported};
 
-fn write(text: &[u8]) {
-    io::write_all(STDOUT_FILENO, text);
+fn write(rt: &impl Print, text: &[u8]) {
+    let _ = rt.write_all(text);
 }
 
 // A blank and a number.
-fn write_number(number: u64) {
-    write(b" ");
-    io::print_decimal(STDOUT_FILENO, number);
+fn write_number(rt: &impl Print, number: u64) {
+    write(rt, b" ");
+    let _ = rt.print(number);
 }
 
-fn write_refused(number: u8, place: usize) {
-    write(b"refused");
-    write_number(number as u64);
-    write_number(place as u64);
+fn write_refused(rt: &impl Print, number: u8, place: usize) {
+    write(rt, b"refused");
+    write_number(rt, number as u64);
+    write_number(rt, place as u64);
 }
 
-pub fn write_opening(opening: Opening) {
+pub fn write_opening(rt: &impl Print, opening: Opening) {
     match opening {
         Opening::Opened(n, r, v) => {
-            write(b"opened");
-            write_number(n as u64);
-            write_number(r as u64);
-            write_number(v as u64);
+            write(rt, b"opened");
+            write_number(rt, n as u64);
+            write_number(rt, r as u64);
+            write_number(rt, v as u64);
         }
-        Opening::Refused(number, place) => write_refused(number, place),
+        Opening::Refused(number, place) => write_refused(rt, number, place),
     }
-    write(b"\n");
+    write(rt, b"\n");
 }
 
-pub fn write_found(found: Found) {
+pub fn write_found(rt: &impl Print, found: Found) {
     match found {
         Found::At(line) => {
-            write(b"at");
-            write_number(line as u64);
+            write(rt, b"at");
+            write_number(rt, line as u64);
         }
-        Found::Unknown => write(b"unknown"),
-        Found::Refused(number, place) => write_refused(number, place),
+        Found::Unknown => write(rt, b"unknown"),
+        Found::Refused(number, place) => write_refused(rt, number, place),
     }
-    write(b"\n");
+    write(rt, b"\n");
 }
 
-fn write_byte(byte: u8) {
-    io::print_hex(STDOUT_FILENO, byte as u64, 2);
+fn write_byte(rt: &impl Print, byte: u8) {
+    let _ = print!(rt; "{byte:02x}");
 }
 
-fn write_bytes(bytes: &[u8]) {
-    let mut i = 0;
-    while i < bytes.len() {
-        write_byte(bytes[i]);
-        i += 1;
+fn write_bytes(rt: &impl Print, bytes: &[u8]) {
+    for byte in bytes {
+        write_byte(rt, *byte);
     }
 }
 
 // Nothing is shown by no bytes: a code that is shown is never empty.
-pub fn write_shown(bytes: &[u8]) {
+pub fn write_shown(rt: &impl Print, bytes: &[u8]) {
     if bytes.len() == 0 {
-        write(b"nothing\n");
+        write(rt, b"nothing\n");
         return;
     }
-    write(b"shown ");
-    write_bytes(bytes);
-    write(b"\n");
+    write(rt, b"shown ");
+    write_bytes(rt, bytes);
+    write(rt, b"\n");
 }
 
 // The lister's lines.
-pub fn write_listing(file: &[u8]) {
+pub fn write_listing(rt: &impl Print, file: &[u8]) {
     let mut text = listing::text_buffer();
     let size = listing::list(file, &mut text);
-    write(&text[..size]);
+    write(rt, &text[..size]);
 }
 
-fn write_sums(sums: Sums) {
-    write_number(sums.first);
-    write_number(sums.second);
+fn write_sums(rt: &impl Print, sums: Sums) {
+    write_number(rt, sums.first);
+    write_number(rt, sums.second);
 }
 
 // The answer of a build, on success the most codes waiting at once, and the checksums of its buffer.
-pub fn write_built(built: Built, sums: Sums) {
+pub fn write_built(rt: &impl Print, built: Built, sums: Sums) {
     match built {
         Built::Done(most) => {
-            write(b"built");
-            write_number(most as u64);
+            write(rt, b"built");
+            write_number(rt, most as u64);
         }
-        Built::Refused(number, place) => write_refused(number, place),
+        Built::Refused(number, place) => write_refused(rt, number, place),
     }
-    write_sums(sums);
-    write(b"\n");
+    write_sums(rt, sums);
+    write(rt, b"\n");
 }
 
 // The answer of a report, and the checksums of its two lists.
-pub fn write_reported(told: Reported, levels: Sums, times: Sums) {
+pub fn write_reported(rt: &impl Print, told: Reported, levels: Sums, times: Sums) {
     match told {
         Reported::Accepted(line) => {
-            write(b"accepted");
-            write_number(line as u64);
+            write(rt, b"accepted");
+            write_number(rt, line as u64);
         }
-        Reported::Unknown => write(b"unknown"),
-        Reported::Refused(number, place) => write_refused(number, place),
+        Reported::Unknown => write(rt, b"unknown"),
+        Reported::Refused(number, place) => write_refused(rt, number, place),
     }
-    write_sums(levels);
-    write_sums(times);
-    write(b"\n");
+    write_sums(rt, levels);
+    write_sums(rt, times);
+    write(rt, b"\n");
 }
 
 // A blank and a level, with a minus before it where it is below zero.
-fn write_level(level: i32) {
+fn write_level(rt: &impl Print, level: i32) {
     if level < 0 {
-        write(b" -");
+        write(rt, b" -");
     } else {
-        write(b" ");
+        write(rt, b" ");
     }
-    io::print_decimal(STDOUT_FILENO, size_of(level));
+    let _ = rt.print(size_of(level));
 }
 
-pub fn write_asked(answer: Answer) {
+pub fn write_asked(rt: &impl Print, answer: Answer) {
     match answer {
-        Answer::Never => write(b"never"),
+        Answer::Never => write(rt, b"never"),
         Answer::Fresh(level) => {
-            write(b"fresh");
-            write_level(level);
+            write(rt, b"fresh");
+            write_level(rt, level);
         }
         Answer::Stale(level, age) => {
-            write(b"stale");
-            write_level(level);
-            write_number(age as u64);
+            write(rt, b"stale");
+            write_level(rt, level);
+            write_number(rt, age as u64);
         }
-        Answer::Unknown => write(b"unknown"),
-        Answer::Refused(number, place) => write_refused(number, place),
+        Answer::Unknown => write(rt, b"unknown"),
+        Answer::Refused(number, place) => write_refused(rt, number, place),
     }
-    write(b"\n");
+    write(rt, b"\n");
 }
 
-pub fn write_length(length: usize) {
-    write(b"length");
-    write_number(length as u64);
-    write(b"\n");
+pub fn write_length(rt: &impl Print, length: usize) {
+    write(rt, b"length");
+    write_number(rt, length as u64);
+    write(rt, b"\n");
 }
 
-fn write_group(group: RefusalGroup) {
+fn write_group(rt: &impl Print, group: RefusalGroup) {
     match group {
-        RefusalGroup::Building => write(b"group building"),
-        RefusalGroup::Opening => write(b"group opening"),
-        RefusalGroup::LookingUp => write(b"group looking-up"),
-        RefusalGroup::Sign => write(b"group sign"),
-        RefusalGroup::NoRefusal => write(b"group none"),
+        RefusalGroup::Building => write(rt, b"group building"),
+        RefusalGroup::Opening => write(rt, b"group opening"),
+        RefusalGroup::LookingUp => write(rt, b"group looking-up"),
+        RefusalGroup::Sign => write(rt, b"group sign"),
+        RefusalGroup::NoRefusal => write(rt, b"group none"),
     }
 }
 
-fn write_meaning(meaning: PlaceMeaning) {
+fn write_meaning(rt: &impl Print, meaning: PlaceMeaning) {
     match meaning {
-        PlaceMeaning::Nothing => write(b" nothing\n"),
-        PlaceMeaning::Code => write(b" code\n"),
-        PlaceMeaning::LengthNeeded => write(b" length-needed\n"),
-        PlaceMeaning::CodesLeft => write(b" codes-left\n"),
-        PlaceMeaning::Offset => write(b" offset\n"),
-        PlaceMeaning::Vertex => write(b" vertex\n"),
-        PlaceMeaning::RankEntry => write(b" rank-entry\n"),
-        PlaceMeaning::Line => write(b" line\n"),
+        PlaceMeaning::Nothing => write(rt, b" nothing\n"),
+        PlaceMeaning::Code => write(rt, b" code\n"),
+        PlaceMeaning::LengthNeeded => write(rt, b" length-needed\n"),
+        PlaceMeaning::CodesLeft => write(rt, b" codes-left\n"),
+        PlaceMeaning::Offset => write(rt, b" offset\n"),
+        PlaceMeaning::Vertex => write(rt, b" vertex\n"),
+        PlaceMeaning::RankEntry => write(rt, b" rank-entry\n"),
+        PlaceMeaning::Line => write(rt, b" line\n"),
     }
 }
 
-pub fn write_refusal(group: RefusalGroup, meaning: PlaceMeaning) {
-    write_group(group);
-    write_meaning(meaning);
+pub fn write_refusal(rt: &impl Print, group: RefusalGroup, meaning: PlaceMeaning) {
+    write_group(rt, group);
+    write_meaning(rt, meaning);
 }
 
-pub fn write_bad() {
-    write(b"bad vector\n");
+pub fn write_bad(rt: &impl Print) {
+    write(rt, b"bad vector\n");
 }

@@ -47,52 +47,55 @@ fn whole(trial: Trial) -> bool {
 }
 
 // Makes the bytes count up, if the first fits a byte.
-fn colour(length: usize, wanted: u64, bytes: &mut [u8]) {
+fn colour(rt: &impl Print, length: usize, wanted: u64, bytes: &mut [u8]) {
     if MOST_NUMBER < wanted {
-        write_bad();
+        write_bad(rt);
         return;
     }
     count_up(bytes, wanted as u8, length);
 }
 
 // What a refusal number means, if it fits a byte.
-fn refusal(wanted: u64) {
+fn refusal(rt: &impl Print, wanted: u64) {
     if MOST_NUMBER < wanted {
-        write_bad();
+        write_bad(rt);
         return;
     }
     let number = wanted as u8;
-    write_refusal(reader::group_of(number), reader::meaning_of(number));
+    write_refusal(rt, reader::group_of(number), reader::meaning_of(number));
 }
 
 // The call that a vector asks for. P, X and Y ask for none: their bytes are in the file and the lists already.
-fn call(trial: Trial, file: &[u8], code: &[u8]) {
+fn call(rt: &impl Print, trial: Trial, file: &[u8], code: &[u8]) {
     let letter = trial.letter;
     match letter {
-        b'O' => write_opening(reader::open(file)),
-        b'H' => write_opening(reader::header(file)),
-        b'L' => write_found(reader::lookup(file, beginning(code, trial.count))),
-        b'S' => write_shown(reader::show(file, trial.last as usize)),
-        b'T' => write_listing(file),
-        b'D' => write_shown(file),
-        b'N' => write_length(reader::length(
-            trial.first as usize,
-            trial.second as usize,
-            trial.last as usize,
-        )),
-        b'G' => refusal(trial.last),
+        b'O' => write_opening(rt, reader::open(file)),
+        b'H' => write_opening(rt, reader::header(file)),
+        b'L' => write_found(rt, reader::lookup(file, beginning(code, trial.count))),
+        b'S' => write_shown(rt, reader::show(file, trial.last as usize)),
+        b'T' => write_listing(rt, file),
+        b'D' => write_shown(rt, file),
+        b'N' => write_length(
+            rt,
+            reader::length(
+                trial.first as usize,
+                trial.second as usize,
+                trial.last as usize,
+            ),
+        ),
+        b'G' => refusal(rt, trial.last),
         _ => (),
     }
 }
 
 // A change of what is held. The bytes of the run, the ends and the weights are in their places already.
-fn change(mut trial: Trial, file: &mut [u8], run: &mut [u8]) -> Trial {
+fn change(rt: &impl Print, mut trial: Trial, file: &mut [u8], run: &mut [u8]) -> Trial {
     let letter = trial.letter;
     match letter {
-        b'C' => trial.length = resize(trial.length, trial.last, file),
-        b'F' => colour(trial.length, trial.last, file),
+        b'C' => trial.length = resize(rt, trial.length, trial.last, file),
+        b'F' => colour(rt, trial.length, trial.last, file),
         b'R' => trial.run = trial.count,
-        b'Z' => trial.run = resize(trial.run, trial.last, run),
+        b'Z' => trial.run = resize(rt, trial.run, trial.last, run),
         b'E' => trial.ends = trial.blanks,
         b'W' => trial.weights = trial.blanks,
         _ => (),
@@ -101,7 +104,14 @@ fn change(mut trial: Trial, file: &mut [u8], run: &mut [u8]) -> Trial {
 }
 
 // The build that a vector asks for, in all of a buffer.
-fn build(trial: Trial, run: &[u8], ends: &[u16], weights: &[u16], buffer: &mut [u8]) {
+fn build(
+    rt: &impl Print,
+    trial: Trial,
+    run: &[u8],
+    ends: &[u16],
+    weights: &[u16],
+    buffer: &mut [u8],
+) {
     let built = builder::build(
         beginning(run, trial.run),
         first_of(ends, trial.ends),
@@ -110,27 +120,29 @@ fn build(trial: Trial, run: &[u8], ends: &[u16], weights: &[u16], buffer: &mut [
         first_of(weights, trial.weights),
         buffer,
     );
-    write_built(built, sums_of(buffer));
+    write_built(rt, built, sums_of(buffer));
 }
 
 // The same in the file, which gets the length that the vector names.
 fn build_in_file(
+    rt: &impl Print,
     mut trial: Trial,
     file: &mut [u8],
     run: &[u8],
     ends: &[u16],
     weights: &[u16],
 ) -> Trial {
-    let length = resize(trial.length, trial.last, file);
+    let length = resize(rt, trial.length, trial.last, file);
     trial.length = length;
     if length <= file.len() {
-        build(trial, run, ends, weights, &mut file[0..length]);
+        build(rt, trial, run, ends, weights, &mut file[0..length]);
     }
     trial
 }
 
 // The end of a vector: what it asks for is done.
 fn done(
+    rt: &impl Print,
     trial: Trial,
     file: &mut [u8],
     code: &[u8],
@@ -145,15 +157,16 @@ fn done(
         return trial;
     }
     if !whole(trial) {
-        write_bad();
+        write_bad(rt);
         return trial;
     }
     match letter {
-        b'C' | b'F' | b'R' | b'Z' | b'E' | b'W' => change(trial, file, run),
-        b'B' => build_in_file(trial, file, run, ends, weights),
-        b'K' | b'V' | b'U' => change_lists(trial, levels, times),
+        b'C' | b'F' | b'R' | b'Z' | b'E' | b'W' => change(rt, trial, file, run),
+        b'B' => build_in_file(rt, trial, file, run, ends, weights),
+        b'K' | b'V' | b'U' => change_lists(rt, trial, levels, times),
         b'A' | b'Q' => {
             call_sign(
+                rt,
                 trial,
                 beginning(file, trial.length),
                 beginning(code, trial.count),
@@ -163,7 +176,7 @@ fn done(
             trial
         }
         _ => {
-            call(trial, beginning(file, trial.length), code);
+            call(rt, trial, beginning(file, trial.length), code);
             trial
         }
     }
@@ -171,6 +184,7 @@ fn done(
 
 // The next byte of the vectors.
 pub fn step(
+    rt: &impl Print,
     trial: Trial,
     byte: u8,
     file: &mut [u8],
@@ -182,7 +196,7 @@ pub fn step(
     times: &mut [u8],
 ) -> Trial {
     if byte == b'\n' {
-        return done(trial, file, code, run, ends, weights, levels, times).next();
+        return done(rt, trial, file, code, run, ends, weights, levels, times).next();
     }
     trial.read(byte, file, code, run, ends, weights, levels, times)
 }

@@ -47,18 +47,16 @@ fn put(buffer: &mut [u8], at: usize, byte: u8) {
 
 // The bytes from one place on become zero, up to another or the end of the buffer.
 pub fn clear(buffer: &mut [u8], from: usize, to: usize) {
-    let mut at = from;
-    while at < to {
+    for at in from..to {
         put(buffer, at, 0);
-        at += 1;
     }
 }
 
 // Cuts bytes, or lengthens them with zeros; their length is given back.
-pub fn resize(length: usize, wanted: u64, bytes: &mut [u8]) -> usize {
+pub fn resize(rt: &impl Print, length: usize, wanted: u64, bytes: &mut [u8]) -> usize {
     let to = wanted as usize;
     if bytes.len() < to {
-        write_bad();
+        write_bad(rt);
         return length;
     }
     clear(bytes, length, to);
@@ -73,11 +71,9 @@ fn next_byte(byte: u8) -> u8 {
 // The bytes up to a place become this one, the next and so on.
 pub fn count_up(buffer: &mut [u8], first: u8, to: usize) {
     let mut byte = first;
-    let mut at = 0;
-    while at < to {
+    for at in 0..to {
         put(buffer, at, byte);
         byte = next_byte(byte);
-        at += 1;
     }
 }
 
@@ -92,10 +88,8 @@ fn cleared_byte(at: usize) -> u8 {
 
 // The bytes up to a place become those of a cleared list of levels.
 pub fn clear_levels(buffer: &mut [u8], to: usize) {
-    let mut at = 0;
-    while at < to {
+    for at in 0..to {
         put(buffer, at, cleared_byte(at));
-        at += 1;
     }
 }
 

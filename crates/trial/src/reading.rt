@@ -11,7 +11,7 @@ const MOST_BLANKS: usize = 65536;
 const MOST_LISTED: u64 = 65535;
 
 // Where the trial stands: what is held, and what is read of a vector.
-#[derive(Drop)]
+#[derive(Clone, Copy)]
 pub struct Trial {
     // The lengths of the file and of the run, how many ends and weights there are, and the lengths of the sign's lists.
     pub length: usize,

@@ -12,9 +12,9 @@ const MOST_TIME: u64 = 4_294_967_295;
 const MOST_PLACES: u64 = 1026;
 
 // Makes both lists cleared ones.
-fn clear_lists(mut trial: Trial, levels: &mut [u8], times: &mut [u8]) -> Trial {
+fn clear_lists(rt: &impl Print, mut trial: Trial, levels: &mut [u8], times: &mut [u8]) -> Trial {
     if MOST_PLACES < trial.last {
-        write_bad();
+        write_bad(rt);
         return trial;
     }
     let bytes = trial.last as usize * PLACE_BYTES;
@@ -26,12 +26,17 @@ fn clear_lists(mut trial: Trial, levels: &mut [u8], times: &mut [u8]) -> Trial {
 }
 
 // A change of the lists.
-pub fn change_lists(mut trial: Trial, levels: &mut [u8], times: &mut [u8]) -> Trial {
+pub fn change_lists(
+    rt: &impl Print,
+    mut trial: Trial,
+    levels: &mut [u8],
+    times: &mut [u8],
+) -> Trial {
     let letter = trial.letter;
     match letter {
-        b'V' => trial.levels = resize(trial.levels, trial.last, levels),
-        b'U' => trial.times = resize(trial.times, trial.last, times),
-        _ => trial = clear_lists(trial, levels, times),
+        b'V' => trial.levels = resize(rt, trial.levels, trial.last, levels),
+        b'U' => trial.times = resize(rt, trial.times, trial.last, times),
+        _ => trial = clear_lists(rt, trial, levels, times),
     }
     trial
 }
@@ -45,14 +50,28 @@ fn time_of(number: u64) -> u32 {
 }
 
 // A report, with all of the lists.
-fn report(trial: Trial, file: &[u8], code: &[u8], levels: &mut [u8], times: &mut [u8]) {
+fn report(
+    rt: &impl Print,
+    trial: Trial,
+    file: &[u8],
+    code: &[u8],
+    levels: &mut [u8],
+    times: &mut [u8],
+) {
     let level = level_of(trial.second, trial.minus);
     let told = sign::report(file, code, level, time_of(trial.last), levels, times);
-    write_reported(told, sums_of(levels), sums_of(times));
+    write_reported(rt, told, sums_of(levels), sums_of(times));
 }
 
 // A report, with the beginnings of the buffers that are the lists.
-fn report_in_lists(trial: Trial, file: &[u8], code: &[u8], levels: &mut [u8], times: &mut [u8]) {
+fn report_in_lists(
+    rt: &impl Print,
+    trial: Trial,
+    file: &[u8],
+    code: &[u8],
+    levels: &mut [u8],
+    times: &mut [u8],
+) {
     let levels_end = trial.levels;
     let times_end = trial.times;
     if levels.len() < levels_end {
@@ -62,6 +81,7 @@ fn report_in_lists(trial: Trial, file: &[u8], code: &[u8], levels: &mut [u8], ti
         return;
     }
     report(
+        rt,
         trial,
         file,
         code,
@@ -71,15 +91,18 @@ fn report_in_lists(trial: Trial, file: &[u8], code: &[u8], levels: &mut [u8], ti
 }
 
 // A question about the lists.
-fn ask(trial: Trial, file: &[u8], code: &[u8], levels: &[u8], times: &[u8]) {
-    write_asked(sign::ask(
-        file,
-        code,
-        time_of(trial.second),
-        time_of(trial.last),
-        beginning(levels, trial.levels),
-        beginning(times, trial.times),
-    ));
+fn ask(rt: &impl Print, trial: Trial, file: &[u8], code: &[u8], levels: &[u8], times: &[u8]) {
+    write_asked(
+        rt,
+        sign::ask(
+            file,
+            code,
+            time_of(trial.second),
+            time_of(trial.last),
+            beginning(levels, trial.levels),
+            beginning(times, trial.times),
+        ),
+    );
 }
 
 // Whether the numbers of a call have 32 bits.
@@ -95,14 +118,21 @@ fn numbers_fit(trial: Trial) -> bool {
 }
 
 // The call of the sign that a vector asks for.
-pub fn call_sign(trial: Trial, file: &[u8], code: &[u8], levels: &mut [u8], times: &mut [u8]) {
+pub fn call_sign(
+    rt: &impl Print,
+    trial: Trial,
+    file: &[u8],
+    code: &[u8],
+    levels: &mut [u8],
+    times: &mut [u8],
+) {
     if !numbers_fit(trial) {
-        write_bad();
+        write_bad(rt);
         return;
     }
     let letter = trial.letter;
     match letter {
-        b'A' => report_in_lists(trial, file, code, levels, times),
-        _ => ask(trial, file, code, levels, times),
+        b'A' => report_in_lists(rt, trial, file, code, levels, times),
+        _ => ask(rt, trial, file, code, levels, times),
     }
 }

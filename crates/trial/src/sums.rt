@@ -7,7 +7,7 @@ const FIRST_FACTOR: u64 = 257;
 
 const SECOND_FACTOR: u64 = 65537;
 
-#[derive(Drop)]
+#[derive(Clone, Copy)]
 pub struct Sums {
     pub first: u64,
     pub second: u64,
@@ -30,10 +30,8 @@ pub fn sums_of(bytes: &[u8]) -> Sums {
         first: 0,
         second: 0,
     };
-    let mut i = 0;
-    while i < bytes.len() {
-        sums = sums.with(bytes[i]);
-        i += 1;
+    for byte in bytes {
+        sums = sums.with(*byte);
     }
     sums
 }
