@@ -4,10 +4,15 @@ ghost use Rattle.std.specs.Prelude.{◌≡◌, length};
 use crate::arguments::FILE;
 use beginnings::first_bytes;
 use files::write_argument;
-use libc::STDOUT_FILENO;
+use std::io;
+use std::rt::{Env, Files};
+use telling::{Tell, argument, say_failed};
 
 // The longest directory.
 const LONGEST_FILE: usize = 37_197;
+
+// The most bytes of a name that are printed.
+const LONGEST_NAME: usize = 4_096;
 
 // Zeros, room for any directory. The `ensures` gives only the length, which lending the array as a slice needs.
 pub fn file_buffer() -> [u8; LONGEST_FILE]
@@ -16,44 +21,51 @@ pub fn file_buffer() -> [u8; LONGEST_FILE]
     [0; LONGEST_FILE]
 }
 
-fn print(text: &[u8]) -> bool {
-    io::write_all(STDOUT_FILENO, text)
+fn print(rt: &impl Print, text: &[u8]) -> io::Result<()> {
+    rt.write_all(text)
 }
 
-fn print_number(number: usize) -> bool {
-    io::print_decimal(STDOUT_FILENO, number as u64)
+fn print_number(rt: &impl Print, number: usize) -> io::Result<()> {
+    rt.print(number)
 }
 
-fn print_name() -> bool {
-    let mut name = io::buffer();
-    let length = os::arg(FILE, &mut name);
-    print(&name[..length])
+fn print_name(rt: &(impl Env + Print)) -> io::Result<()> {
+    let mut name = [0u8; LONGEST_NAME];
+    let length = argument(rt, FILE, &mut name);
+    print(rt, &name[..length])
 }
 
-fn print_codes(n: usize) -> bool {
+fn print_codes(rt: &impl Print, n: usize) -> io::Result<()> {
     if n == 1 {
-        return print(b"1 code");
+        return print(rt, b"1 code");
     }
-    print_number(n) && print(b" codes")
+    print_number(rt, n)?;
+    print(rt, b" codes")
 }
 
 // The name of the file, how many codes it has and how many bytes.
-fn print_done(n: usize, length: usize) -> bool {
-    print_name()
-        && print(b": ")
-        && print_codes(n)
-        && print(b", ")
-        && print_number(length)
-        && print(b" bytes\n")
+fn print_done(rt: &(impl Env + Print), n: usize, length: usize) -> io::Result<()> {
+    print_name(rt)?;
+    print(rt, b": ")?;
+    print_codes(rt, n)?;
+    print(rt, b", ")?;
+    print_number(rt, length)?;
+    print(rt, b" bytes\n")
 }
 
 // Writes the directory of n codes that stands at the start of a buffer.
-pub fn write_file(n: usize, r: usize, v: usize, buffer: &[u8]) {
+pub fn write_file(
+    rt: &(impl Env + Files + Print + Tell),
+    n: usize,
+    r: usize,
+    v: usize,
+    buffer: &[u8],
+) {
     let length = reader::length(n, r, v);
-    if !write_argument(FILE, first_bytes(buffer, length)) {
+    if !write_argument(rt, FILE, first_bytes(buffer, length)) {
         return;
     }
-    if !print_done(n, length) {
-        os::fail(b"standard output");
+    if let Err(error) = print_done(rt, n, length) {
+        say_failed(rt, b"standard output", error);
     }
 }
