@@ -1,4 +1,1 @@
-pub mod ListsLaws
 pub mod Taken
-pub mod TakenSteps
-pub mod Printed

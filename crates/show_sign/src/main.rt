@@ -1,4 +1,6 @@
 // Shows the sign of a directory file after the reports of a text: show_sign FILE REPORTS NOW LIMIT. NOW and LIMIT are in seconds.
+#![tactic(auto)]
+
 mod arguments; // arguments.rt: what the arguments are, and room for the text of the reports
 mod words; // words.rt: what is wrong with a report, with the limit or with the file
 mod lists; // lists.rt: the lists of levels and times, cleared
@@ -15,18 +17,21 @@ use beginnings::first_bytes;
 use directory::Opening;
 use files::{Got, read_argument};
 use given::{number_argument, text_argument};
-use libc::STDOUT_FILENO;
 use lists::{MOST_BYTES, clear};
 use reader::open;
 use reports::take_reports;
 use rows::{put_rows, sign_buffer};
 use sign::{Answer, PLACE, WRONG_LIMIT, ask};
-use telling::say;
+use std::rt::{Env, Files};
+use telling::{Tell, argument_count, say, say_failed};
 use texts::{MOST_TIME, Number};
 use words::{tell_file, tell_limit};
 
+// The longest file that is read whole.
+const LONGEST_FILE: usize = 65_536;
+
 // Whether asking takes a limit. It looks at the limit before it looks for the line, so any code of a byte will do.
-fn limit_taken(file: &[u8], limit: u32) -> bool {
+fn limit_taken(rt: &impl Tell, file: &[u8], limit: u32) -> bool {
     let none = b"";
     let Answer::Refused(number, place) = ask(file, b"-", 0, limit, none, none) else {
         return true;
@@ -34,22 +39,31 @@ fn limit_taken(file: &[u8], limit: u32) -> bool {
     if number != WRONG_LIMIT {
         return true;
     }
-    tell_limit(limit, number, place);
+    tell_limit(rt, limit, number, place);
     false
 }
 
-fn print_sign(file: &[u8], n: usize, moment: u32, limit: u32, levels: &[u8], times: &[u8])
+fn print_sign(
+    rt: &(impl Print + Tell),
+    file: &[u8],
+    n: usize,
+    moment: u32,
+    limit: u32,
+    levels: &[u8],
+    times: &[u8],
+)
     requires { n ≤ most_codes }
 {
     let mut text = sign_buffer();
     let size = put_rows(&mut text, file, n, moment, limit, levels, times);
-    if !io::write_all(STDOUT_FILENO, first_bytes(&text, size)) {
-        os::fail(b"standard output");
+    if let Err(error) = rt.write_all(first_bytes(&text, size)) {
+        say_failed(rt, b"standard output", error);
     }
 }
 
 // Of a file that opens, with n lines, and two lists of as many places. What is printed is the sign of the lists as they are left.
 fn show(
+    rt: &(impl Env + Print + Tell),
     file: &[u8],
     n: usize,
     reports: &[u8],
@@ -62,17 +76,25 @@ fn show(
     ensures { lists levels.new times.new ≡ after_text file.now reports.now (cleared n) }
 {
     clear(n, levels, times);
-    take_reports(file, reports, levels, times);
-    print_sign(file, n, moment, limit, levels, times);
+    take_reports(rt, file, reports, levels, times);
+    print_sign(rt, file, n, moment, limit, levels, times);
 }
 
-fn lend(file: &[u8], n: usize, reports: &[u8], moment: u32, limit: u32)
+fn lend(
+    rt: &(impl Env + Print + Tell),
+    file: &[u8],
+    n: usize,
+    reports: &[u8],
+    moment: u32,
+    limit: u32,
+)
     requires { n ≤ most_codes }
 {
     let mut levels = [0u8; MOST_BYTES];
     let mut times = [0u8; MOST_BYTES];
     let size = PLACE * n;
     show(
+        rt,
         file,
         n,
         reports,
@@ -84,31 +106,32 @@ fn lend(file: &[u8], n: usize, reports: &[u8], moment: u32, limit: u32)
 }
 
 // A file that does not open has no sign.
-fn show_file(file: &[u8], reports: &[u8], moment: u32, limit: u32) {
+fn show_file(rt: &(impl Env + Print + Tell), file: &[u8], reports: &[u8], moment: u32, limit: u32) {
     match open(file) {
         Opening::Opened(n, _, _) => {
-            if limit_taken(file, limit) {
-                lend(file, n as usize, reports, moment, limit);
+            if limit_taken(rt, file, limit) {
+                lend(rt, file, n as usize, reports, moment, limit);
             }
         }
-        Opening::Refused(number, place) => tell_file(number, place),
+        Opening::Refused(number, place) => tell_file(rt, number, place),
     }
 }
 
-fn run(file: &mut [u8], reports: &mut [u8]) {
-    let Number::Is(moment) = number_argument(NOW, b"NOW", MOST_TIME) else {
+fn run(rt: &(impl Env + Files + Print + Tell), file: &mut [u8], reports: &mut [u8]) {
+    let Number::Is(moment) = number_argument(rt, NOW, b"NOW", MOST_TIME) else {
         return;
     };
-    let Number::Is(limit) = number_argument(LIMIT, b"LIMIT", MOST_TIME) else {
+    let Number::Is(limit) = number_argument(rt, LIMIT, b"LIMIT", MOST_TIME) else {
         return;
     };
-    let Got::Bytes(length) = read_argument(FILE, file) else {
+    let Got::Bytes(length) = read_argument(rt, FILE, file) else {
         return;
     };
-    let Got::Bytes(size) = text_argument(REPORTS, reports, LONGEST_TEXT) else {
+    let Got::Bytes(size) = text_argument(rt, REPORTS, reports, LONGEST_TEXT) else {
         return;
     };
     show_file(
+        rt,
         first_bytes(file, length),
         first_bytes(reports, size),
         moment,
@@ -116,12 +139,12 @@ fn run(file: &mut [u8], reports: &mut [u8]) {
     );
 }
 
-fn main() {
-    if os::arg_count() != ARGUMENTS {
-        say(b"usage: show_sign FILE REPORTS NOW LIMIT\n");
+fn main(rt: HostRuntime) {
+    if argument_count(&rt) != ARGUMENTS {
+        say(&rt, b"usage: show_sign FILE REPORTS NOW LIMIT\n");
         return;
     }
-    let mut file = io::large_buffer();
+    let mut file = [0u8; LONGEST_FILE];
     let mut reports = text_buffer();
-    run(&mut file, &mut reports);
+    run(&rt, &mut file, &mut reports);
 }

@@ -4,7 +4,7 @@ use Rattle.std.proofs.Common.{sym, ◌∙◌}
 use Rattle.std.proofs.Math.Path.{ap}
 use Rattle.directory.specs.declared.Opening.TheVariants as opening
 use Rattle.directory.specs.Calls.{open_of, show_of}
-use Rattle.directory.specs.EveryFile.{what_opens_has_its_header}
+use Rattle.directory.proofs.EveryFile.{what_opens_has_its_header}
 use Rattle.texts.specs.declared.Report.{Report}
 use Rattle.texts.specs.declared.Report.TheVariants.{Is, Wrong}
 use Rattle.texts.specs.Lines.{line}
@@ -15,8 +15,8 @@ use Rattle.sign.specs.Rules.{a_question, limit_allowed}
 use Rattle.sign.specs.Keeping.{Lists, fits, heard_at, cleared}
 use Rattle.sign.specs.Calls.{lines_of, lines_in, ask_of}
 use Rattle.sign.specs.Trace.{Call, after, sign_next, sign, nothing}
-use Rattle.sign.specs.TraceLaws.{after_stands, cleared_stands}
-use Rattle.rows.specs.Shown as shown
+use Rattle.sign.proofs.TraceLaws.{after_stands, cleared_stands}
+use Rattle.rows.proofs.Shown as shown
 use Rattle.show_sign.specs.Taken.{after_read, after_line, after_lines, after_text, calls_read, calls_to, calls_in}
 
 -- ---- the reports of a text are calls, one after the other

@@ -3,18 +3,18 @@ use Rattle.std.specs.Prelude.{◌≡◌, refl, false, List, ℕ, ◌+◌, ◌≤
 use Rattle.std.proofs.Math.Path.{ap}
 use Rattle.std.proofs.Common.{◌∙◌, add-one, arith, length-drop}
 use borrow.Author.Count.{below_more}
-use Rattle.counting.specs.SearchLaws.{lowest_only}
+use Rattle.counting.proofs.SearchLaws.{lowest_only}
 use Rattle.counting.specs.Wrote.{Wrote}
 use Rattle.texts.specs.declared.Report.TheVariants.{Is, Wrong}
 use Rattle.texts.specs.Parts.{before, since, Left}
 use Rattle.texts.specs.Lines.{is_newline, from_line, line, no_line, without_return}
-use Rattle.texts.specs.LineSteps.{line_first, line-next, line_here, line-there, line_none}
+use Rattle.texts.proofs.LineSteps.{line_first, line-next, line_here, line-there, line_none}
 use Rattle.texts.specs.Words.{word}
 use Rattle.texts.specs.Codes.{most_kept, kept, code_stored}
-use Rattle.texts.specs.CodeLaws.{kept_most}
-use Rattle.texts.specs.ReadLaws.{written-first}
+use Rattle.texts.proofs.CodeLaws.{kept_most}
+use Rattle.texts.proofs.ReadLaws.{written-first}
 use Rattle.texts.specs.Reports.{report_of}
-use Rattle.texts.specs.ReportLaws.{report_exactly, code_is}
+use Rattle.texts.proofs.ReportLaws.{report_exactly, code_is}
 use Rattle.sign.specs.Rules.{a_report}
 use Rattle.sign.specs.Keeping.{Lists}
 use Rattle.sign.specs.Calls.{after_report}

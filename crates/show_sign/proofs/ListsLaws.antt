@@ -2,9 +2,9 @@
 use Rattle.std.specs.Prelude.{◌≡◌, refl, List, [], ◌∷◌, ◌++◌, ℕ, zero, suc, length, drop}
 use Rattle.std.proofs.Common.{ap, ◌∙◌, append-nil, arith, drop_of_length-le}
 use Rattle.counting.specs.Lists.{each}
-use Rattle.counting.specs.EachLaws.{length-each}
+use Rattle.counting.proofs.EachLaws.{length-each}
 use Rattle.counting.specs.Wrote.{Wrote}
-use Rattle.counting.specs.WroteLaws.{wrote_whole}
+use Rattle.counting.proofs.WroteLaws.{wrote_whole}
 use Rattle.sign.specs.Places.{place_bytes, place_at, byte0, byte1, byte2, byte3, filled}
 use Rattle.sign.specs.Keeping.{lists, cleared}
 

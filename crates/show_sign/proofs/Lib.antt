@@ -1,0 +1,3 @@
+pub mod ListsLaws
+pub mod TakenSteps
+pub mod Printed
