@@ -1,4 +1,6 @@
 // The calls from C: each takes numbers and slices, calls the proved call of the same purpose, and gives its answer in the paper's numbers. include/dronesickle.h is their description for C.
+#![tactic(auto)]
+
 ghost use Rattle.std.specs.Prelude.{◌≡◌, pos};
 ghost use Rattle.directory.specs.Building.{lent};
 ghost use Rattle.directory.specs.Calls.{length_of, build_numbers_of, buffer_after_of, open_numbers_of, lookup_numbers_of, show_part_of};
@@ -13,7 +15,7 @@ use sign::{Answer, Reported};
 
 // A build's answer: success is 0, or a refusal's number, and its place.
 #[repr(C)]
-#[derive(Drop)]
+#[derive(Clone, Copy)]
 pub struct DsAnswer {
     pub number: u32,
     pub place: usize,
@@ -21,7 +23,7 @@ pub struct DsAnswer {
 
 // A build's answer with the most codes that waited at once, which is 0 on refusal.
 #[repr(C)]
-#[derive(Drop)]
+#[derive(Clone, Copy)]
 pub struct DsCounted {
     pub number: u32,
     pub place: usize,
@@ -30,7 +32,7 @@ pub struct DsCounted {
 
 // An opening's answer: success is 0, or a refusal's number, and its place; the file's n, r and v, all 0 on refusal.
 #[repr(C)]
-#[derive(Drop)]
+#[derive(Clone, Copy)]
 pub struct DsOpened {
     pub number: u32,
     pub place: usize,
@@ -41,7 +43,7 @@ pub struct DsOpened {
 
 // A lookup's answer: the kind, 0 At, 1 Unknown, 2 Refused; a refusal's number and place; the line of an At.
 #[repr(C)]
-#[derive(Drop)]
+#[derive(Clone, Copy)]
 pub struct DsFound {
     pub kind: u32,
     pub number: u32,
@@ -51,7 +53,7 @@ pub struct DsFound {
 
 // A part of a file: the offset of its first byte, and how many bytes it has.
 #[repr(C)]
-#[derive(Drop)]
+#[derive(Clone, Copy)]
 pub struct DsPart {
     pub start: usize,
     pub length: usize,
@@ -59,7 +61,7 @@ pub struct DsPart {
 
 // A report's answer: the kind, 1 Unknown, 2 Refused, 3 Accepted; a refusal's number and place; the line of an Accepted.
 #[repr(C)]
-#[derive(Drop)]
+#[derive(Clone, Copy)]
 pub struct DsReported {
     pub kind: u32,
     pub number: u32,
@@ -69,7 +71,7 @@ pub struct DsReported {
 
 // A question's answer: the kind, 1 Unknown, 2 Refused, 4 Never, 5 Fresh, 6 Stale; a refusal's number and place; the level of a Fresh or Stale, and the age of a Stale.
 #[repr(C)]
-#[derive(Drop)]
+#[derive(Clone, Copy)]
 pub struct DsAsked {
     pub kind: u32,
     pub number: u32,

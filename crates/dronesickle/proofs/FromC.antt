@@ -10,8 +10,8 @@ use Rattle.directory.specs.declared.Found.TheVariants as looked
 use Rattle.directory.specs.Building.{Lent}
 use Rattle.directory.specs.Answers.{built_numbers, opening_numbers, found_numbers}
 use Rattle.directory.specs.Calls.{build_of, build_numbers_of, buffer_after_of, open_of, open_numbers_of, lookup_of, lookup_numbers_of, show_part_of}
-use Rattle.directory.specs.Demands.{the_numbers_of_building, building_refuses_with_1_to_8}
-use Rattle.directory.specs.EveryFile.{the_numbers_of_opening, the_numbers_of_looking_up, opening_refuses_with_9_to_15}
+use Rattle.directory.proofs.Demands.{the_numbers_of_building, building_refuses_with_1_to_8}
+use Rattle.directory.proofs.EveryFile.{the_numbers_of_opening, the_numbers_of_looking_up, opening_refuses_with_9_to_15}
 use Rattle.sign.specs.declared.Reported.{Reported}
 use Rattle.sign.specs.declared.Reported.TheVariants as told
 use Rattle.sign.specs.declared.Answer.{Answer}
