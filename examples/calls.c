@@ -1,8 +1,8 @@
 /* The calls from C: builds the directory of a small club's gauges, opens it, looks codes up, shows the lines, brings
  * reports and asks for them. include/dronesickle.h says what each call takes and gives.
  *
- *     rt staticlib dronesickle
- *     cc -std=c99 -Iinclude examples/calls.c target/staticlib/libdronesickle.a -o calls && ./calls
+ *     (cd crates/dronesickle && rt lib)
+ *     cc -std=c99 -Iinclude examples/calls.c crates/dronesickle/out/libdronesickle.a -o calls && ./calls
  */
 #include "dronesickle.h"
 

@@ -142,10 +142,10 @@
  *
  * LINKING
  *
- * `rt staticlib dronesickle` proves the calls and writes target/staticlib/libdronesickle.a, for x86-64
- * Linux. It needs memcpy and memset from the C library and nothing else.
+ * `rt lib` in crates/dronesickle proves the calls and writes out/libdronesickle.a there, for x86-64 Linux. It
+ * needs memcpy and memset from the C library and nothing else.
  *
- *     cc -std=c99 -Iinclude examples/calls.c target/staticlib/libdronesickle.a -o calls
+ *     cc -std=c99 -Iinclude examples/calls.c crates/dronesickle/out/libdronesickle.a -o calls
  *
  * EXAMPLE (with the list above and 64 weights; examples/calls.c is one that runs, examples/draw_sign draws a sign)
  *

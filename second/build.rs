@@ -16,7 +16,7 @@ fn main() {
     let library = folder.join("libdronesickle.a");
     if !folder.is_absolute() || !library.is_file() {
         println!(
-            "cargo::error={FOLDER} has to be the whole path of the folder with libdronesickle.a, which `rt staticlib dronesickle` writes to target/staticlib"
+            "cargo::error={FOLDER} has to be the whole path of the folder with libdronesickle.a, which `rt lib` in crates/dronesickle writes to crates/dronesickle/out"
         );
         return;
     }

@@ -2,14 +2,10 @@
 
 use crate::inputs::{Input, BLANK};
 
-const HEADER: &str = "use mathlib.Core.Path.{_≡_, refl}
-use mathlib.Core.Bool.{true}
-use mathlib.Core.List.{List, [], _∷_}
-use Prim.Native.Nat.{ℕ}
-use lib.ListN.{take, set, replicate}
-use Rattle·counting.specs.Lists.{every}
-use Rattle·directory·specs.specs.Building.{Lent}
-use Rattle·directory·specs.specs.Trials.{answers, leaves, measures, reads, stops, opens, fails, finds, misses, rejects, shows, prints, isSo}
+const HEADER: &str = "use Rattle.std.specs.Prelude.{◌≡◌, refl, true, List, [], ◌∷◌, ℕ, take, set, replicate}
+use Rattle.counting.specs.Lists.{every}
+use Rattle.directory.specs.Building.{Lent}
+use Rattle.directory.proofs.Trials.{answers, leaves, measures, reads, stops, opens, fails, finds, misses, rejects, shows, prints, is_so}
 ";
 
 /// Trials of one theorem: few enough for the checker's limit on one computation.
@@ -36,10 +32,10 @@ impl Page {
     pub fn state(&mut self, number: u64, defined: &[String], trials: &[String]) {
         let defined = defined.join(" ");
         for (k, part) in trials.chunks(TRIALS_OF_A_THEOREM).enumerate() {
-            let name = format!("list{number}-{k}");
+            let name = format!("list{number}_{k}");
             let list = part.join("\n    ∷ ");
-            self.0 += &format!("\n{name} : every isSo (\n    {list}\n    ∷ []) ≡ true\n");
-            self.0 += &format!("unfolding {defined} isSo\n{name} = refl\n");
+            self.0 += &format!("\n{name} : every is_so (\n    {list}\n    ∷ []) ≡ true\n");
+            self.0 += &format!("unfolding {defined} is_so\n{name} = refl\n");
         }
     }
 }

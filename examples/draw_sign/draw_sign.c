@@ -7,9 +7,9 @@
  * hex, the level in millimetres, the time in seconds. NOW is a time too, and LIMIT the greatest age that is fresh. A
  * line that is no report, or whose report is not accepted, is told on standard error, and the drawing goes on.
  *
- *     rt staticlib dronesickle
+ *     (cd crates/dronesickle && rt lib)
  *     cc -std=c11 -Iinclude examples/draw_sign/draw_sign.c examples/draw_sign/reports.c \
- *        examples/draw_sign/picture.c target/staticlib/libdronesickle.a -o draw_sign
+ *        examples/draw_sign/picture.c crates/dronesickle/out/libdronesickle.a -o draw_sign
  */
 #define _POSIX_C_SOURCE 200809L
 #include "draw_sign.h"
