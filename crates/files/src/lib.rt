@@ -8,6 +8,9 @@ mod writing; // writing.rt: a file, written
 pub use reading::{read_argument, read_input};
 pub use writing::write_argument;
 
+// The most bytes of a directory file that are read.
+pub const LONGEST_FILE: usize = 65_536;
+
 // How many bytes were read, or that reading failed.
 #[derive(Clone, Copy)]
 pub enum Got {

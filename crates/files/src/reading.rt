@@ -7,10 +7,7 @@ use crate::names::{name_argument, text_of};
 use std::fs;
 use std::io::{Input, Read};
 use std::rt::{Env, Files};
-use telling::{Tell, say_failed};
-
-// The most bytes of a name.
-const LONGEST_NAME: usize = 4_096;
+use telling::{LONGEST_ARGUMENT, Tell, say_failed};
 
 // One call: the bytes go to a place and after it.
 fn read_some(
@@ -61,7 +58,7 @@ fn read_path(rt: &(impl Files + Tell), path: &[u8], buffer: &mut [u8]) -> Got {
 
 // Reads the file that argument i names.
 pub fn read_argument(rt: &(impl Env + Files + Tell), i: usize, buffer: &mut [u8]) -> Got {
-    let mut path = [0u8; LONGEST_NAME];
+    let mut path = [0u8; LONGEST_ARGUMENT];
     let Some(length) = name_argument(rt, i, &mut path) else {
         return Got::Failed;
     };

@@ -3,18 +3,15 @@
 
 use beginnings::first_bytes;
 use directory::{Found, Opening};
-use files::{Got, read_argument};
+use files::{Got, LONGEST_FILE, read_argument};
 use reader::{lookup, open};
 use std::io;
 use std::rt::Env;
-use telling::{Tell, argument, argument_count, refused, say, say_argument, say_bytes, say_failed};
+use telling::{
+    LONGEST_ARGUMENT, Tell, argument, argument_count, refused, say, say_argument, say_bytes,
+    say_failed,
+};
 use texts::{Code, MOST_KEPT, read_code};
-
-// The longest file that is read whole.
-const LONGEST_FILE: usize = 65_536;
-
-// The most bytes of an argument that are read.
-const LONGEST_ARGUMENT: usize = 4_096;
 
 // How many arguments there are, with the program's own name, and the place of each.
 const ARGUMENTS: usize = 3;

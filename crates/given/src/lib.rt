@@ -3,11 +3,8 @@
 
 use files::{Got, read_argument};
 use std::rt::{Env, Files};
-use telling::{Tell, argument, say, say_argument, say_bytes, say_number};
+use telling::{LONGEST_ARGUMENT, Tell, argument, say, say_argument, say_bytes, say_number};
 use texts::{Number, read_number};
-
-// The most bytes of an argument that are read.
-const LONGEST_ARGUMENT: usize = 4_096;
 
 // The number that argument i is, from 0 to the largest that is allowed.
 pub fn number_argument(rt: &(impl Env + Tell), i: usize, name: &[u8], most: u32) -> Number {

@@ -2,12 +2,9 @@
 #![tactic(auto)]
 
 use beginnings::first_bytes;
-use files::{Got, read_argument, read_input};
+use files::{Got, LONGEST_FILE, read_argument, read_input};
 use std::rt::{Env, Files};
 use telling::{Tell, argument_count, say, say_failed};
-
-// The longest file that is listed whole.
-const LONGEST_FILE: usize = 65_536;
 
 // How many arguments there are with a file's name, the program's own name among them, and its place.
 const ARGUMENTS: usize = 2;

@@ -6,13 +6,10 @@ use beginnings::first_bytes;
 use files::write_argument;
 use std::io;
 use std::rt::{Env, Files};
-use telling::{Tell, argument, say_failed};
+use telling::{LONGEST_ARGUMENT, Tell, argument, say_failed};
 
 // The longest directory.
 const LONGEST_FILE: usize = 37_197;
-
-// The most bytes of a name that are printed.
-const LONGEST_NAME: usize = 4_096;
 
 // Zeros, room for any directory. The `ensures` gives only the length, which lending the array as a slice needs.
 pub fn file_buffer() -> [u8; LONGEST_FILE]
@@ -30,7 +27,7 @@ fn print_number(rt: &impl Print, number: usize) -> io::Result<()> {
 }
 
 fn print_name(rt: &(impl Env + Print)) -> io::Result<()> {
-    let mut name = [0u8; LONGEST_NAME];
+    let mut name = [0u8; LONGEST_ARGUMENT];
     let length = argument(rt, FILE, &mut name);
     print(rt, &name[..length])
 }

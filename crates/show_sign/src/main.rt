@@ -15,7 +15,7 @@ ghost use Rattle.show_sign.specs.Taken.{after_text};
 use arguments::{ARGUMENTS, FILE, LIMIT, LONGEST_TEXT, NOW, REPORTS, text_buffer};
 use beginnings::first_bytes;
 use directory::Opening;
-use files::{Got, read_argument};
+use files::{Got, LONGEST_FILE, read_argument};
 use given::{number_argument, text_argument};
 use lists::{MOST_BYTES, clear};
 use reader::open;
@@ -26,9 +26,6 @@ use std::rt::{Env, Files};
 use telling::{Tell, argument_count, say, say_failed};
 use texts::{MOST_TIME, Number};
 use words::{tell_file, tell_limit};
-
-// The longest file that is read whole.
-const LONGEST_FILE: usize = 65_536;
 
 // Whether asking takes a limit. It looks at the limit before it looks for the line, so any code of a byte will do.
 fn limit_taken(rt: &impl Tell, file: &[u8], limit: u32) -> bool {

@@ -4,6 +4,9 @@ ghost use Rattle.std.specs.Prelude.{◌≤◌, length};
 use std::env::FillError;
 use std::rt::Env;
 
+// The most bytes of an argument that are read.
+pub const LONGEST_ARGUMENT: usize = 4_096;
+
 // Puts argument i at the start of a buffer and gives its length back: 0 where there is none, or where it is longer than the buffer.
 pub fn argument(rt: &impl Env, i: usize, buffer: &mut [u8]) -> usize
     ensures { result ≤ length buffer.new }

@@ -5,7 +5,7 @@ mod arguments; // arguments.rt: the program's arguments
 mod failures; // failures.rt: why a call of the system failed
 mod refusals; // refusals.rt: why something was refused
 
-pub use arguments::{argument, argument_count};
+pub use arguments::{LONGEST_ARGUMENT, argument, argument_count};
 use beginnings::first_bytes;
 pub use failures::say_failed;
 pub use refusals::refused;
@@ -16,9 +16,6 @@ use std::rt::Env;
 
 // The most bytes of a line or a word that are shown.
 const MOST_SHOWN: usize = 80;
-
-// The most bytes of an argument that are read.
-const LONGEST_ARGUMENT: usize = 4_096;
 
 // Standard error. It takes any bytes, since an argument need not be text.
 pub trait Tell {
