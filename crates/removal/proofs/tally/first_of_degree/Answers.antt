@@ -5,9 +5,8 @@ use Rattle.removal.proofs.tally.first_of_degree.Goals as goal
 
 pub returns-then-degrees-x : goal.returns-then-degrees-x
 returns-then-degrees-x c =
-    let u = c in
-    let v = u.loop-j in
-    lowest_only (record { none_before = v.invariant.1; most = v.invariant.0; passes = λ l. eq-eqb _ _ (rw u.vertex-x.ensures at c.if-degrees-x.true) })
+    let v = c.loop-j in
+    lowest_only (record { none_before = v.invariant.1; most = v.invariant.0; passes = λ l. eq-eqb _ _ (rw c.vertex-x.ensures at c.if-degrees-x.true) })
 
 pub returns : goal.returns
 returns c = let v = c.loop-j in lowest_only (record { none_before = v.invariant.1; most = v.invariant.0; passes = λ l. absurd (omega arith) })

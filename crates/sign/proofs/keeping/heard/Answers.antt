@@ -6,12 +6,10 @@ use Rattle.sign.proofs.keeping.heard.Goals as goal
 
 pub returns-then-has_place : goal.returns-then-has_place
 returns-then-has_place c =
-    let d = c in
-    let a = d.args in
-    c.last_at.ensures ∙ sym (heard-there (lists a.levels.now a.times.now) a.line (sym d.has_place.ensures ∙ c.if-has_place.true))
+    let a = c.args in
+    c.last_at.ensures ∙ sym (heard-there (lists a.levels.now a.times.now) a.line (sym c.has_place.ensures ∙ c.if-has_place.true))
 
 pub returns-else-has_place : goal.returns-else-has_place
 returns-else-has_place c =
-    let d = c in
-    let a = d.args in
-    sym (heard_nowhere (lists a.levels.now a.times.now) a.line (sym d.has_place.ensures ∙ c.if-has_place.false))
+    let a = c.args in
+    sym (heard_nowhere (lists a.levels.now a.times.now) a.line (sym c.has_place.ensures ∙ c.if-has_place.false))

@@ -10,8 +10,6 @@ use Rattle.sign.proofs.keeping.keep.Goals as goal
 pub returns : goal.returns
 unfolding keep
 returns c =
-    let d = c in
-    let s = d in
     ap₂ lists
-    (d.put_number.ensures ∙ ap (λ (x : ℕ). with_number s.args.levels.now s.args.line x) (d.to_bits.ensures ∙ ap twos (to_z-of_z {w = w32} s.ranges.level)))
+    (c.put_number.ensures ∙ ap (λ (x : ℕ). with_number c.args.levels.now c.args.line x) (c.to_bits.ensures ∙ ap twos (to_z-of_z {w = w32} c.ranges.level)))
     c.put_number-2.ensures

@@ -15,8 +15,7 @@ tested c = c.in_range.ensures ∙ ap in_range (to_z-of_z {w = w32} c.ranges.leve
 
 pub returns-then-in_range : goal.returns-then-in_range
 returns-then-in_range c =
-    let s = c in
-    ap (λ (z : ℤ). Heard z s.args.time) (to_z-of_z {w = w32} s.ranges.level) ∙ sym (last-heard s.args.level s.args.time (sym (tested (goal.at.returns-then-in_range c).After-in_range) ∙ c.if-in_range.true))
+    ap (λ (z : ℤ). Heard z c.args.time) (to_z-of_z {w = w32} c.ranges.level) ∙ sym (last-heard c.args.level c.args.time (sym (tested (goal.at.returns-then-in_range c).After-in_range) ∙ c.if-in_range.true))
 
 pub returns-else-in_range : goal.returns-else-in_range
 returns-else-in_range c = let a = c.args in sym (last_never a.level a.time (sym (tested (goal.at.returns-else-in_range c).After-in_range) ∙ c.if-in_range.false))

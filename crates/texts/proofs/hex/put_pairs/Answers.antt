@@ -11,13 +11,11 @@ loop-i-init c = (wrote_each_none _ _ _, omega arith, omega arith)
 
 pub pair_byte-b-requires : goal.pair_byte-b-requires
 pair_byte-b-requires c =
-    let l = c in
-    let right = right-digit _ l.requires.right in
-    (right (2 * l.loop-i.i) (omega arith), right (2 * l.loop-i.i + 1) (omega arith))
+    let right = right-digit _ c.requires.right in
+    (right (2 * c.loop-i.i) (omega arith), right (2 * c.loop-i.i + 1) (omega arith))
 
 pub loop-i-preserved : goal.loop-i-preserved
 unfolding first_pairs pair_byte
 loop-i-preserved c =
-    let p = c in
-    let v = p.loop-i in
-    (wrote_each-next v.i _ v.invariant.0 (wrote_named (ap (λ b. b ∷ []) p.pair_byte-b.ensures) c.put_byte-to.ensures), omega arith, omega arith)
+    let v = c.loop-i in
+    (wrote_each-next v.i _ v.invariant.0 (wrote_named (ap (λ b. b ∷ []) c.pair_byte-b.ensures) c.put_byte-to.ensures), omega arith, omega arith)

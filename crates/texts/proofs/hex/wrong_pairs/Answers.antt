@@ -7,7 +7,7 @@ pub returns-then-digits-ne0 : goal.returns-then-digits-ne0
 returns-then-digits-ne0 c = pairs_odd _ c.if-digits-ne0.true
 
 pub returns-then-hex_value-eq-SIXTEEN : goal.returns-then-hex_value-eq-SIXTEEN
-returns-then-hex_value-eq-SIXTEEN c = let l = c in pairs_other _ l.loop-i.i (omega arith) (sym c.hex_value.ensures.0 ∙ c.if-hex_value-eq-SIXTEEN.true)
+returns-then-hex_value-eq-SIXTEEN c = pairs_other _ c.loop-i.i (omega arith) (sym c.hex_value.ensures.0 ∙ c.if-hex_value-eq-SIXTEEN.true)
 
 pub returns : goal.returns
 returns c = pairs_right _ c.if-digits-ne0.false (λ i l. c.loop-i.invariant i (omega arith))

@@ -5,7 +5,7 @@ use Rattle.texts.proofs.LevelLaws.{minus, plus}
 use Rattle.texts.proofs.levels.signed.Goals as goal
 
 pub returns-then-negative : goal.returns-then-negative
-returns-then-negative c = let s = c in (minus s.args.size s.requires).is ∙ ap (λ b. signed_of b s.args.size) (sym c.if-negative.true)
+returns-then-negative c = (minus c.args.size c.requires).is ∙ ap (λ b. signed_of b c.args.size) (sym c.if-negative.true)
 
 pub returns : goal.returns
-returns c = let s = c in plus s.args.size s.requires ∙ ap (λ b. signed_of b s.args.size) (sym c.if-negative.false)
+returns c = plus c.args.size c.requires ∙ ap (λ b. signed_of b c.args.size) (sym c.if-negative.false)

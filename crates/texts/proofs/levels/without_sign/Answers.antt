@@ -16,8 +16,7 @@ slice_bounds-result-start c = negative_long _ (negative (goal.at.slice_bounds-re
 
 pub returns-then-is_negative : goal.returns-then-is_negative
 returns-then-is_negative c =
-    let n = c in
-    let w = n.args.word.now in
+    let w = c.args.word.now in
     take_all (length w - 1) (drop 1 w) (omega (arith, length-drop 1 w)) ∙ sign_taken w (negative (goal.at.returns-then-is_negative c).Then-is_negative)
 
 pub returns : goal.returns
