@@ -8,3 +8,4 @@ pub mod OccurrenceLaws
 pub mod LargerLaws
 pub mod HoldsLaws
 pub mod WroteLaws
+pub mod RangeLaws

@@ -79,6 +79,14 @@ lowest_only {k} {p} {i} h =
     (λ (l : lowest k p ≤ i). ⊎_elim (λ (m : lowest k p < i). absurd (clash (w.passes (omega (arith, h.most))) (h.none_before (lowest k p) m))) (λ (m : i ≤ lowest k p). omega arith) (lt? (lowest k p) i))
     (lt? i (lowest k p))
 
+-- a search that has found none before i stops there, where i passes
+pub lowest_at : {k : ℕ} {p : ℕ → Bool} {i : ℕ} → ((j : ℕ) → j < i → p j ≡ false) → i < k → p i ≡ true → i ≡ lowest k p
+lowest_at before l here = lowest_only (record { none_before = before; most = omega arith; passes = λ m. here })
+
+-- a search that has found none up to the bound ends there
+pub lowest_past : {k : ℕ} {p : ℕ → Bool} {i : ℕ} → ((j : ℕ) → j < i → p j ≡ false) → k ≤ i → k ≡ lowest k p
+lowest_past before e = lowest_only (record { none_before = λ j l. before j (omega arith); most = omega arith; passes = λ l. absurd (omega arith) })
+
 pub lowest_equal : (k : ℕ) (p q : ℕ → Bool) → ((i : ℕ) → i < k → p i ≡ q i) → lowest k p ≡ lowest k q
 lowest_equal k p q h =
     let w = lowest_is k p in

@@ -8,7 +8,6 @@ use Rattle.counting.proofs.TestLaws.{eq?}
 use Rattle.counting.specs.Lists.{every}
 use Rattle.graph.specs.Peeling.{number_left}
 use Rattle.graph.proofs.GroupLaws.{refused_exactly, largest_bound, largest_attained}
-use Rattle.directory.specs.declared.Built.TheVariants.{Refused}
 use Rattle.directory.specs.Kind.{Kind}
 use Rattle.directory.proofs.RefusalLaws.{none_left, none_right, none_both}
 use Rattle.directory.proofs.RowLaws.{another, given_row}
@@ -18,6 +17,8 @@ use Rattle.directory.specs.Conditions.{LargestGroup}
 use Rattle.directory.proofs.LendingLaws.{limits, limits_back, different, different_back}
 use Rattle.directory.proofs.BuildingLaws.{refused_by}
 use Rattle.directory.proofs.DoneLaws.{done_nothing, done_back}
+use Rattle.directory.specs.declared.Reason.TheVariants.{Cyclic}
+use Rattle.directory.specs.Refusals.{refused}
 
 module _ (K : Kind) (I : Lent) (p : ℕ) where
   -- some codes are left over, p of them, exactly if the largest group has the size p
@@ -34,7 +35,7 @@ module _ (K : Kind) (I : Lent) (p : ℕ) where
         (ap not (ne_eqb (number_left (graph K I)) 0 (omega arith)), omega (arith, a.2, largest_bound (graph K I) a.0 a.1, b.2, w.most b.0 b.1)),
   )
 
-  pub refused_8 : (build K I ≡ Refused 8 p) ↔ (WithinLimits K I × Different K I × LargestGroup K I p)
+  pub refused_8 : (build K I ≡ refused Cyclic p) ↔ (WithinLimits K I × Different K I × LargestGroup K I p)
   unfolding build_refusals lent_refusals graph_refusals every another
   refused_8 =
       let seven = take 1 (graph_refusals K I) in
@@ -46,7 +47,7 @@ module _ (K : Kind) (I : Lent) (p : ℕ) where
 -- ---- different codes within the limits
 
 module _ (K : Kind) (I : Lent) (w : WithinLimits K I) (d : Different K I) where
-  pub cyclic_exactly : ((p : ℕ) × (build K I ≡ Refused 8 p)) ↔ ((S : ℕ → Bool) × GroupOfCodes K I S)
+  pub cyclic_exactly : ((p : ℕ) × (build K I ≡ refused Cyclic p)) ↔ ((S : ℕ → Bool) × GroupOfCodes K I S)
   cyclic_exactly = (
     λ a. let g = ((refused_8 K I a.0).0 a.1).2.attained in (g.0, g.1),
     λ g. (number_left (graph K I), (refused_8 K I _).1 (w, d, record { attained = largest_attained (graph K I) ((refused_exactly (graph K I)).1 g); most = largest_bound (graph K I) })),

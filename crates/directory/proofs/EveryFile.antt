@@ -1,13 +1,11 @@
 -- What is proved of the calls on any bytes, for readers: each theorem under a line that says it, with the law that proves it. Assumes nothing.
-use Rattle.std.specs.Prelude.{◌≡◌, ◌⊎◌, ◌≢◌, ◌↔◌, List, [], ℕ, ◌≤◌, ◌<◌, length}
+use Rattle.std.specs.Prelude.{Ok, Some, None, ◌≡◌, ◌⊎◌, ◌≢◌, ◌↔◌, List, [], ℕ, ◌≤◌, ◌<◌, length}
 use Rattle.std.proofs.Math.Path.{refl}
 use Rattle.std.proofs.Common.{ap, inl, ⊎_elim, arith}
-use Rattle.directory.specs.declared.Opening.TheVariants as opening
-use Rattle.directory.specs.declared.Found.TheVariants as found
 use Rattle.directory.specs.declared.Lead.{Lead}
 use Rattle.directory.specs.declared.Lead.TheVariants.{ToLine, PastLast}
 use Rattle.directory.specs.Sizes.{Header, most_codes, headed}
-use Rattle.directory.specs.Refusals.{Refusal, NoneApplies, Given}
+use Rattle.directory.specs.Refusals.{number_of, refused, Refusal, NoneApplies, Given}
 use Rattle.directory.specs.File.{header_in, code_at, key_length, stored_code, lead_in}
 use Rattle.directory.specs.Whole.{Framed, Whole}
 use Rattle.directory.specs.Opening.{header_refusals, open_refusals}
@@ -21,6 +19,8 @@ use Rattle.directory.proofs.OpeningLaws.{header-opened, header_refused, opening-
 use Rattle.directory.proofs.LookupLaws.{lookup-line, lookup-below, lookup_refused}
 use Rattle.directory.proofs.ShowingLaws.{shown-part, shown-stored, part_empty, shown_empty, shown_bytes}
 use Rattle.directory.proofs.OpenedLaws.{stored_some, stored_own, lookup-stored, lookup_unknown, lookup_wrong, shows_stored, shows_none}
+use Rattle.directory.specs.declared.Reason.{Reason}
+use Rattle.directory.specs.declared.Reason.TheVariants.{WrongRank, WrongCode}
 
 -- ---- short names, of any bytes f
 
@@ -54,31 +54,31 @@ module _ (f : List ℕ) where
   -- ---- opening, and the header alone
 
   -- a file opens exactly if it is whole, and gives its header's n, r and v
-  pub opens_exactly_if_whole : (n r v : ℕ) → (open_of f ≡ opening.Opened n r v) ↔ ((header_in f ≡ headed n r v) × Whole (kind_of f) (headed n r v) f)
+  pub opens_exactly_if_whole : (n r v : ℕ) → (open_of f ≡ Ok (headed n r v)) ↔ ((header_in f ≡ headed n r v) × Whole (kind_of f) (headed n r v) f)
   unfolding open_of
   opens_exactly_if_whole = opening-opened (kind_of f) f
 
-  -- it is refused exactly with the number and place of the first of 9 to 15 that applies, in document 01's order
-  pub opening_is_refused_by_the_first_that_applies : (k p : ℕ) → (open_of f ≡ opening.Refused k p) ↔ Given (open_table f) k p
+  -- it is refused exactly with the reason and place of the first of 9 to 15 that applies, in document 01's order
+  pub opening_is_refused_by_the_first_that_applies : (k : Reason) (p : ℕ) → (open_of f ≡ refused k p) ↔ Given (open_table f) k p
   unfolding open_of
   opening_is_refused_by_the_first_that_applies = opening_refused (kind_of f) f
 
   -- the header call gives n, r and v exactly if the first mark, the sizes and the length are right
-  pub the_header_is_given_exactly_if_framed : (n r v : ℕ) → (header_of f ≡ opening.Opened n r v) ↔ ((header_in f ≡ headed n r v) × Framed (kind_of f) (headed n r v) f)
+  pub the_header_is_given_exactly_if_framed : (n r v : ℕ) → (header_of f ≡ Ok (headed n r v)) ↔ ((header_in f ≡ headed n r v) × Framed (kind_of f) (headed n r v) f)
   unfolding header_of
   the_header_is_given_exactly_if_framed = header-opened (kind_of f) f
 
-  -- it is refused exactly with the number and place of the first of 9, 10, 11 and 9 that applies
-  pub the_header_is_refused_by_the_first_that_applies : (k p : ℕ) → (header_of f ≡ opening.Refused k p) ↔ Given (header_table f) k p
+  -- it is refused exactly with the reason and place of the first of 9, 10, 11 and 9 that applies
+  pub the_header_is_refused_by_the_first_that_applies : (k : Reason) (p : ℕ) → (header_of f ≡ refused k p) ↔ Given (header_table f) k p
   unfolding header_of
   the_header_is_refused_by_the_first_that_applies = header_refused (kind_of f) f
 
   -- what opens, gives its header's numbers to the header call too
-  pub what_opens_has_its_header : (n r v : ℕ) → open_of f ≡ opening.Opened n r v → header_of f ≡ opening.Opened n r v
+  pub what_opens_has_its_header : (n r v : ℕ) → open_of f ≡ Ok (headed n r v) → header_of f ≡ Ok (headed n r v)
   what_opens_has_its_header n r v o = let w = (opens_exactly_if_whole n r v).0 o in (the_header_is_given_exactly_if_framed n r v).1 (w.0, w.1.framed)
 
   -- no header that is given has more than 1,024 codes
-  pub a_header_has_at_most_1024_codes : (n r v : ℕ) → header_of f ≡ opening.Opened n r v → n ≤ most_codes
+  pub a_header_has_at_most_1024_codes : (n r v : ℕ) → header_of f ≡ Ok (headed n r v) → n ≤ most_codes
   a_header_has_at_most_1024_codes n r v o = ((the_header_is_given_exactly_if_framed n r v).0 o).1.sizes.few
 
   -- ---- the paper's numbers
@@ -94,48 +94,45 @@ module _ (f : List ℕ) where
   the_numbers_of_looking_up = lookup_paper f
 
   -- a refusal of opening has a number from 9 to 15
-  pub opening_refuses_with_9_to_15 : (k p : ℕ) → open_of f ≡ opening.Refused k p → (9 ≤ k) × (k ≤ 15)
+  pub opening_refuses_with_9_to_15 : (k : Reason) (p : ℕ) → open_of f ≡ refused k p → (9 ≤ number_of k) × (number_of k ≤ 15)
   opening_refuses_with_9_to_15 k p e = open_numbers (kind_of f) (header_in f) f ((opening_is_refused_by_the_first_that_applies k p).0 e)
 
-  some_number : (k p : ℕ) → open_of f ≡ opening.Refused k p → 1 ≤ k
-  some_number k p e = omega (arith, (opening_refuses_with_9_to_15 k p e).0)
-
   -- so number 0 is given exactly if the file opens, with the place 0 and its n, r and v
-  pub number_0_exactly_if_it_opens : (n r v : ℕ) → (open_numbers_of f ≡ (0, 0, n, r, v)) ↔ (open_of f ≡ opening.Opened n r v)
-  number_0_exactly_if_it_opens = rw (← open_paper f) (numbers_of_success (open_of f) some_number)
+  pub number_0_exactly_if_it_opens : (n r v : ℕ) → (open_numbers_of f ≡ (0, 0, n, r, v)) ↔ (open_of f ≡ Ok (headed n r v))
+  number_0_exactly_if_it_opens = rw (← open_paper f) (numbers_of_success (open_of f))
 
   -- otherwise the number and the place are those of the refusal, and n, r and v are 0
-  pub otherwise_the_refusals_number_and_place : (k p : ℕ) → 1 ≤ k → (open_numbers_of f ≡ (k, p, 0, 0, 0)) ↔ (open_of f ≡ opening.Refused k p)
-  otherwise_the_refusals_number_and_place = rw (← open_paper f) (numbers_of-refusal (open_of f) some_number)
+  pub otherwise_the_refusals_number_and_place : (number p : ℕ) → 1 ≤ number → (open_numbers_of f ≡ (number, p, 0, 0, 0)) ↔ ((k : Reason) × (number_of k ≡ number) × (open_of f ≡ refused k p))
+  otherwise_the_refusals_number_and_place = rw (← open_paper f) (numbers_of-refusal (open_of f))
 
   -- ---- looking up
 
   module _ (t : List ℕ) where
     -- a line is given exactly if no refusal applies, the code leads to it, and its KY record has the code's length and bytes
-    pub a_line_is_given_exactly_if_the_code_leads_and_stands_there : (l : ℕ) → (lookup_of f t ≡ found.At l) ↔ (NoneApplies (lookup_table f t) × (lead_of_code f t ≡ ToLine l) × (stored_length f l ≡ length t) × (stored f l ≡ t))
+    pub a_line_is_given_exactly_if_the_code_leads_and_stands_there : (l : ℕ) → (lookup_of f t ≡ Ok (Some l)) ↔ (NoneApplies (lookup_table f t) × (lead_of_code f t ≡ ToLine l) × (stored_length f l ≡ length t) × (stored f l ≡ t))
     unfolding lookup_of
     a_line_is_given_exactly_if_the_code_leads_and_stands_there = lookup-line (kind_of f) f t
 
     -- so a line that is given is below the header's n, and the code that is stored there is the one asked for
-    pub a_line_that_is_given_stores_the_code : (l : ℕ) → lookup_of f t ≡ found.At l → (l < (header_in f).n) × (stored f l ≡ t)
+    pub a_line_that_is_given_stores_the_code : (l : ℕ) → lookup_of f t ≡ Ok (Some l) → (l < (header_in f).n) × (stored f l ≡ t)
     unfolding lookup_of
     a_line_that_is_given_stores_the_code l e = (lookup-below (kind_of f) f t l e, ((lookup-line (kind_of f) f t l).0 e).3)
 
     -- that n is the one that the header call gives
-    pub a_line_that_is_given_is_below_the_headers_n : (n r v l : ℕ) → header_of f ≡ opening.Opened n r v → lookup_of f t ≡ found.At l → l < n
+    pub a_line_that_is_given_is_below_the_headers_n : (n r v l : ℕ) → header_of f ≡ Ok (headed n r v) → lookup_of f t ≡ Ok (Some l) → l < n
     a_line_that_is_given_is_below_the_headers_n n r v l o e = let h = ((the_header_is_given_exactly_if_framed n r v).0 o).0 in (rw h at (a_line_that_is_given_stores_the_code l e).0)
 
     -- looking up is refused exactly with the first of 9, 10, 11, 9 and 16 that applies, or where none does with 13, if the code leads to a line of n or more by the rank entry that is the place
-    pub looking_up_is_refused_by_the_first_that_applies : (k p : ℕ) → (lookup_of f t ≡ found.Refused k p) ↔ (Given (lookup_table f t) k p ⊎ (NoneApplies (lookup_table f t) × (k ≡ 13) × (lead_of_code f t ≡ PastLast p)))
+    pub looking_up_is_refused_by_the_first_that_applies : (k : Reason) (p : ℕ) → (lookup_of f t ≡ refused k p) ↔ (Given (lookup_table f t) k p ⊎ (NoneApplies (lookup_table f t) × (k ≡ WrongRank) × (lead_of_code f t ≡ PastLast p)))
     unfolding lookup_of
     looking_up_is_refused_by_the_first_that_applies = lookup_refused (kind_of f) f t
 
     -- its number is from 9 to 16
-    pub looking_up_refuses_with_9_to_16 : (k p : ℕ) → lookup_of f t ≡ found.Refused k p → (9 ≤ k) × (k ≤ 16)
-    looking_up_refuses_with_9_to_16 k p e = ⊎_elim (λ g. lookup-numbers (kind_of f) (header_in f) f t g) (λ w. (omega (arith, w.1), omega (arith, w.1))) ((looking_up_is_refused_by_the_first_that_applies k p).0 e)
+    pub looking_up_refuses_with_9_to_16 : (k : Reason) (p : ℕ) → lookup_of f t ≡ refused k p → (9 ≤ number_of k) × (number_of k ≤ 16)
+    looking_up_refuses_with_9_to_16 k p e = ⊎_elim (λ g. lookup-numbers (kind_of f) (header_in f) f t g) (λ w. let e : number_of k ≡ 13 = ap number_of w.1 in (omega arith, omega arith)) ((looking_up_is_refused_by_the_first_that_applies k p).0 e)
 
     -- a refusal of the header is that of every lookup, with the same number and place
-    pub a_refused_header_is_refused_to_every_code : (k p : ℕ) → header_of f ≡ opening.Refused k p → lookup_of f t ≡ found.Refused k p
+    pub a_refused_header_is_refused_to_every_code : (k : Reason) (p : ℕ) → header_of f ≡ refused k p → lookup_of f t ≡ refused k p
     unfolding lookup_refusals
     a_refused_header_is_refused_to_every_code k p e = (looking_up_is_refused_by_the_first_that_applies k p).1 (inl (given_more _ ((the_header_is_refused_by_the_first_that_applies k p).0 e)))
 
@@ -169,7 +166,7 @@ module _ (f : List ℕ) where
 
 -- ---- a file that opens, wherever it comes from
 
-module _ (f : List ℕ) (n r v : ℕ) (o : open_of f ≡ opening.Opened n r v) where
+module _ (f : List ℕ) (n r v : ℕ) (o : open_of f ≡ Ok (headed n r v)) where
   n_is : (header_in f).n ≡ n
   n_is = ap (λ (h : Header). h.n) ((opens_exactly_if_whole f n r v).0 o).0
 
@@ -177,26 +174,26 @@ module _ (f : List ℕ) (n r v : ℕ) (o : open_of f ≡ opening.Opened n r v) w
   is_whole = let w = (opens_exactly_if_whole f n r v).0 o in rw w.0 w.1
 
   -- looking up gives a line exactly to the code that is stored there
-  pub a_line_is_given_exactly_to_the_code_stored_there : (t : List ℕ) (l : ℕ) → (lookup_of f t ≡ found.At l) ↔ ((l < n) × (stored f l ≡ t))
+  pub a_line_is_given_exactly_to_the_code_stored_there : (t : List ℕ) (l : ℕ) → (lookup_of f t ≡ Ok (Some l)) ↔ ((l < n) × (stored f l ≡ t))
   unfolding lookup_of
   a_line_is_given_exactly_to_the_code_stored_there = rw (← n_is) (lookup-stored (kind_of f) f is_whole)
 
   -- it gives Unknown exactly to the other codes of 1 to 32 bytes
-  pub unknown_exactly_to_the_others : (t : List ℕ) → (lookup_of f t ≡ found.Unknown) ↔ ((1 ≤ length t) × (length t ≤ most_bytes f) × ((l : ℕ) → l < n → stored f l ≢ t))
+  pub unknown_exactly_to_the_others : (t : List ℕ) → (lookup_of f t ≡ Ok None) ↔ ((1 ≤ length t) × (length t ≤ most_bytes f) × ((l : ℕ) → l < n → stored f l ≢ t))
   unfolding lookup_of
   unknown_exactly_to_the_others = rw (← n_is) (lookup_unknown (kind_of f) f is_whole)
 
   -- it refuses exactly what is empty or over 32 bytes, with 16 and the place 0
-  pub refused_exactly_what_is_no_code : (t : List ℕ) (k p : ℕ) → (lookup_of f t ≡ found.Refused k p) ↔ ((k ≡ 16) × (p ≡ 0) × ((length t ≡ 0) ⊎ (most_bytes f < length t)))
+  pub refused_exactly_what_is_no_code : (t : List ℕ) (k : Reason) (p : ℕ) → (lookup_of f t ≡ refused k p) ↔ ((k ≡ WrongCode) × (p ≡ 0) × ((length t ≡ 0) ⊎ (most_bytes f < length t)))
   unfolding lookup_of
   refused_exactly_what_is_no_code = lookup_wrong (kind_of f) f is_whole
 
   -- it never gives 13
-  pub thirteen_is_never_given : (t : List ℕ) (p : ℕ) → lookup_of f t ≢ found.Refused 13 p
-  thirteen_is_never_given t p e = omega (arith, ((refused_exactly_what_is_no_code t 13 p).0 e).0)
+  pub thirteen_is_never_given : (t : List ℕ) (p : ℕ) → lookup_of f t ≢ refused WrongRank p
+  thirteen_is_never_given t p e = let z : ◌≡◌ {A = ℕ} 13 16 = ap number_of ((refused_exactly_what_is_no_code t WrongRank p).0 e).0 in omega arith
 
   -- each stored code is found at its own line
-  pub each_stored_code_is_found_at_its_line : (l : ℕ) → l < n → lookup_of f (stored f l) ≡ found.At l
+  pub each_stored_code_is_found_at_its_line : (l : ℕ) → l < n → lookup_of f (stored f l) ≡ Ok (Some l)
   each_stored_code_is_found_at_its_line l m = (a_line_is_given_exactly_to_the_code_stored_there (stored f l) l).1 (m, refl)
 
   -- the codes of different lines differ

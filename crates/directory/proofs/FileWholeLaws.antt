@@ -1,5 +1,5 @@
 -- What a build within the limits writes, where nothing is left over: the file is whole, each code is found at its line, and the lines are 0 to n-1. Assumes nothing.
-use Rattle.std.specs.Prelude.{◌≡◌, refl, ◌⊎◌, ◌≢◌, Bool, true, false, List, ℕ, ◌≤◌, ◌<◌, length}
+use Rattle.std.specs.Prelude.{Ok, Some, None, ◌≡◌, refl, ◌⊎◌, ◌≢◌, Bool, true, false, List, ℕ, ◌≤◌, ◌<◌, length}
 use Rattle.std.proofs.Common.{sym, ◌∙◌, inl, inr, arith}
 use Rattle.std.proofs.Math.Path.{ap}
 use borrow.Author.Tests.{eqb-false, not-true}
@@ -9,9 +9,7 @@ use Rattle.graph.specs.Assignment.{assigned_below, values, landing_vertex, line,
 use Rattle.graph.proofs.AssignmentLaws.{values_most}
 use Rattle.graph.proofs.LandingLaws.{landing_inside, landing-assigned, assigned-number}
 use Rattle.graph.proofs.LineLaws.{line-below, line_own, line_onto, edge_line, line_edge}
-use Rattle.directory.specs.declared.Opening.TheVariants.{Opened}
-use Rattle.directory.specs.declared.Found.TheVariants.{At, Unknown, Refused}
-use Rattle.directory.specs.Sizes.{Header}
+use Rattle.directory.specs.Sizes.{headed, Header}
 use Rattle.directory.specs.Codes.{wrong_length}
 use Rattle.directory.proofs.CodesLaws.{code-length, length-right}
 use Rattle.directory.specs.Kind.{Kind}
@@ -28,6 +26,8 @@ use Rattle.directory.proofs.OpeningLaws.{opening-opened}
 use Rattle.directory.specs.LookingUp.{lookup}
 use Rattle.directory.specs.Showing.{shown}
 use Rattle.directory.proofs.OpenedLaws.{lookup-stored, lookup_sixteen, lookup_unknown, shows_stored}
+use Rattle.directory.specs.declared.Reason.TheVariants.{WrongCode}
+use Rattle.directory.specs.Refusals.{refused}
 
 module _ (K : Kind) (I : Lent) (w : WithinLimits K I) (nothing : number_left (graph K I) ≡ 0) where
   open K use {positions}
@@ -132,10 +132,10 @@ module _ (K : Kind) (I : Lent) (w : WithinLimits K I) (nothing : number_left (gr
   unfolding file_of
   stored l m = rw file-header (code_back K h (weight K I) (values G) (key K I) short l m)
 
-  pub file_opens : opening K f ≡ Opened n r v
+  pub file_opens : opening K f ≡ Ok (headed n r v)
   file_opens = (opening-opened K f n r v).1 (file-header, file_whole)
 
-  pub code-found : (k : ℕ) → k < n → lookup K f (code_of K I k) ≡ At (line_of K I k)
+  pub code-found : (k : ℕ) → k < n → lookup K f (code_of K I k) ≡ Ok (Some (line_of K I k))
   code-found k l = (lookup-stored K f its_whole (code_of K I k) (line_of K I k)).1 (rw file-header (lines-below k l), stored (line_of K I k) (lines-below k l) ∙ key-line k l)
 
   pub line_shows : (k : ℕ) → k < n → shown K f (line_of K I k) ≡ code_of K I k
@@ -147,9 +147,9 @@ module _ (K : Kind) (I : Lent) (w : WithinLimits K I) (nothing : number_left (gr
     unfolding key
     not-stored l m e = let b : l < n = (rw file-header at m) in other (edge_of_line G l) (edge_below l b) (sym (stored l b) ∙ e)
 
-    pub stranger : (lookup K f t ≡ Unknown) ⊎ (lookup K f t ≡ Refused 16 0)
+    pub stranger : (lookup K f t ≡ Ok None) ⊎ (lookup K f t ≡ refused WrongCode 0)
     stranger = go (wrong_length positions (length t)) refl
       where
-        go : (b : Bool) → wrong_length positions (length t) ≡ b → (lookup K f t ≡ Unknown) ⊎ (lookup K f t ≡ Refused 16 0)
+        go : (b : Bool) → wrong_length positions (length t) ≡ b → (lookup K f t ≡ Ok None) ⊎ (lookup K f t ≡ refused WrongCode 0)
         go true u = inr (lookup_sixteen K f its_whole t u)
         go false u = let c = (length-right positions (length t)).0 u in inl ((lookup_unknown K f its_whole t).1 (c.0, c.1, not-stored))

@@ -1,21 +1,20 @@
 -- A file that is whole: where codes lead in it, and what looking up and showing give. Assumes nothing.
 use Rattle.std.proofs.Math.Path.{◌≡◌, refl, sym}
 use Rattle.std.proofs.Common.{ap, ◌∙◌, arith}
-use Rattle.std.specs.Prelude.{◌⊎◌, ◌≢◌, ◌↔◌, Bool, ℕ, ◌≤◌, ◌<◌}
+use Rattle.std.specs.Prelude.{Ok, Some, None, ◌⊎◌, ◌≢◌, ◌↔◌, Bool, ℕ, ◌≤◌, ◌<◌}
 use Rattle.std.proofs.Math.Logic.{inl, inr, ⊎_elim}
 use Rattle.std.proofs.Math.Bool.{true, false}
 use mathlib.Core.List.{List, []}
 use Rattle.std.proofs.Math.ListN.{length}
 use Rattle.counting.proofs.TestLaws.{never_true}
-use Rattle.directory.specs.declared.Found.TheVariants.{At, Unknown, Refused}
 use Rattle.directory.specs.declared.Lead.{Lead}
 use Rattle.directory.specs.declared.Lead.TheVariants.{Nowhere, ToLine, PastLast}
 use Rattle.directory.specs.Sizes.{Header}
 use Rattle.directory.specs.Codes.{wrong_length}
 use Rattle.directory.proofs.CodesLaws.{length_wrong, length-right}
 use Rattle.directory.specs.Kind.{Kind, vertex}
-use Rattle.directory.specs.Refusals.{NoneApplies}
-use Rattle.directory.proofs.RefusalLaws.{none_both, first_none, first_past, first_one}
+use Rattle.directory.specs.Refusals.{refused, NoneApplies}
+use Rattle.directory.proofs.RefusalLaws.{none_both, first_none, first_past, first_one, refused_own}
 use Rattle.directory.proofs.LeadLaws.{lead_below}
 use Rattle.directory.specs.File.{header_in, weight_in, table_in, key_length, stored_code, lead_in}
 use Rattle.directory.specs.Opening.{header_refusals}
@@ -26,6 +25,8 @@ use Rattle.directory.specs.LookingUp.{lookup_refusals, found, lookup}
 use Rattle.directory.proofs.LookupLaws.{holds-code, found_past, lookup-line, lookup-below}
 use Rattle.directory.specs.Showing.{shown, past_last}
 use Rattle.directory.proofs.ShowingLaws.{shown-stored, shown_empty}
+use Rattle.directory.specs.declared.Reason.{Reason}
+use Rattle.directory.specs.declared.Reason.TheVariants.{WrongCode}
 
 -- ---- where codes lead
 
@@ -62,7 +63,7 @@ module _ (K : Kind) (h : Header) (f : List ℕ) (w : Whole K h f) where
   stored_own k l a b e = let i : ToLine k ≡ ToLine l = sym (stored_leads k a) ∙ ap (lead_in K h f) e ∙ stored_leads l b in cc
 
   -- what is found of a code that no line stores
-  pub found_unknown : (t : List ℕ) → ((l : ℕ) → l < n → stored_code K h f l ≢ t) → found K h f t (lead_in K h f t) ≡ Unknown
+  pub found_unknown : (t : List ℕ) → ((l : ℕ) → l < n → stored_code K h f l ≢ t) → found K h f t (lead_in K h f t) ≡ Ok None
   unfolding found
   found_unknown t d = ⊎_elim (λ e. rw e) (λ c. rw (c.2, never_true _ (λ q. d c.0 c.1 (holds-code K h f t c.0 q).1))) (leads_below t)
 
@@ -79,34 +80,34 @@ module _ (K : Kind) (f : List ℕ) (w : Whole K (header_in f) f) where
   none_applies t a b = none_both (header_refusals K h f) _ (framed_back K h f w.framed) ((length-right positions (length t)).1 (a, b), tt)
 
   -- a line is given exactly to the code that is stored there
-  pub lookup-stored : (t : List ℕ) (l : ℕ) → (lookup K f t ≡ At l) ↔ ((l < h.n) × (stored_code K h f l ≡ t))
+  pub lookup-stored : (t : List ℕ) (l : ℕ) → (lookup K f t ≡ Ok (Some l)) ↔ ((l < h.n) × (stored_code K h f l ≡ t))
   lookup-stored t l = (λ e. (lookup-below K f t l e, ((lookup-line K f t l).0 e).3), λ c. rw (← c.1) (own c.0))
     where
-      own : l < h.n → lookup K f (stored_code K h f l) ≡ At l
+      own : l < h.n → lookup K f (stored_code K h f l) ≡ Ok (Some l)
       own m = (lookup-line K f (stored_code K h f l) l).1 (none_applies _ (stored_some K h f w l m) (stored_most K h f w l m), stored_leads K h f w l m, sym (stored-size K h f w l m), refl)
 
   -- a refusal is 16, and is given exactly to a code that is empty or over 32 bytes
-  pub lookup_sixteen : (t : List ℕ) → wrong_length positions (length t) ≡ true → lookup K f t ≡ Refused 16 0
+  pub lookup_sixteen : (t : List ℕ) → wrong_length positions (length t) ≡ true → lookup K f t ≡ refused WrongCode 0
   unfolding lookup lookup_refusals
-  lookup_sixteen t u = first_past _ Refused (header_refusals K h f) _ (framed_back K h f w.framed) ∙ first_one _ Refused _ [] u
+  lookup_sixteen t u = first_past _ refused (header_refusals K h f) _ (framed_back K h f w.framed) ∙ first_one _ refused _ [] u
 
-  pub lookup_wrong : (t : List ℕ) (k p : ℕ) → (lookup K f t ≡ Refused k p) ↔ ((k ≡ 16) × (p ≡ 0) × ((length t ≡ 0) ⊎ (positions < length t)))
+  pub lookup_wrong : (t : List ℕ) (k : Reason) (p : ℕ) → (lookup K f t ≡ refused k p) ↔ ((k ≡ WrongCode) × (p ≡ 0) × ((length t ≡ 0) ⊎ (positions < length t)))
   unfolding lookup
   lookup_wrong t k p = (λ e. there e (wrong_length positions (length t)) refl, λ c. lookup_sixteen t ((length_wrong positions (length t)).1 c.2) ∙ cc)
     where
-      there : lookup K f t ≡ Refused k p → (b : Bool) → wrong_length positions (length t) ≡ b → (k ≡ 16) × (p ≡ 0) × ((length t ≡ 0) ⊎ (positions < length t))
-      there e true u = let i : Refused 16 0 ≡ Refused k p = sym (lookup_sixteen t u) ∙ e in (cc, cc, (length_wrong positions (length t)).0 u)
+      there : lookup K f t ≡ refused k p → (b : Bool) → wrong_length positions (length t) ≡ b → (k ≡ WrongCode) × (p ≡ 0) × ((length t ≡ 0) ⊎ (positions < length t))
+      there e true u = let i = refused_own k p WrongCode 0 (sym e ∙ lookup_sixteen t u) in (i.0, i.1, (length_wrong positions (length t)).0 u)
       there e false u =
           let c = (length-right positions (length t)).0 u in
-          let d = found_past K h f t (lead_in K h f t) k p (sym (first_none _ Refused _ (none_applies t c.0 c.1)) ∙ e) in
+          let d = found_past K h f t (lead_in K h f t) k p (sym (first_none _ refused _ (none_applies t c.0 c.1)) ∙ e) in
           absurd (leads_never_past K h f w.framed.sizes w.table t p d.1)
 
   -- every other code is unknown
-  pub lookup_unknown : (t : List ℕ) → (lookup K f t ≡ Unknown) ↔ ((1 ≤ length t) × (length t ≤ positions) × ((l : ℕ) → l < h.n → stored_code K h f l ≢ t))
+  pub lookup_unknown : (t : List ℕ) → (lookup K f t ≡ Ok None) ↔ ((1 ≤ length t) × (length t ≤ positions) × ((l : ℕ) → l < h.n → stored_code K h f l ≢ t))
   unfolding lookup
-  lookup_unknown t = (λ e. there e (wrong_length positions (length t)) refl, λ c. first_none _ Refused _ (none_applies t c.0 c.1) ∙ found_unknown K h f w t c.2)
+  lookup_unknown t = (λ e. there e (wrong_length positions (length t)) refl, λ c. first_none _ refused _ (none_applies t c.0 c.1) ∙ found_unknown K h f w t c.2)
     where
-      there : lookup K f t ≡ Unknown → (b : Bool) → wrong_length positions (length t) ≡ b → (1 ≤ length t) × (length t ≤ positions) × ((l : ℕ) → l < h.n → stored_code K h f l ≢ t)
+      there : lookup K f t ≡ Ok None → (b : Bool) → wrong_length positions (length t) ≡ b → (1 ≤ length t) × (length t ≤ positions) × ((l : ℕ) → l < h.n → stored_code K h f l ≢ t)
       there e true u = absurd (let i = lookup_sixteen t u in let z : ◌≡◌ {A = ℕ} 0 1 = cc in omega arith)
       there e false u =
           let c = (length-right positions (length t)).0 u in

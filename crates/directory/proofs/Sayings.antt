@@ -1,23 +1,18 @@
 -- What a worked case can say of a build and of the file that it wrote, each a test of the definitions that the contracts cite. Assumes nothing.
-use Rattle.std.specs.Prelude.{Bool, true, false, ◌&&◌, List, [], ◌∷◌, ◌++◌, map, ℕ, ◌+◌, eqb, length, take, drop}
+use Rattle.std.specs.Prelude.{Ok, Err, Some, None, Bool, true, false, ◌&&◌, List, [], ◌∷◌, ◌++◌, map, ℕ, ◌+◌, eqb, length, take, drop}
 use Rattle.counting.specs.Below.{lowest, those}
 use Rattle.counting.specs.Lists.{same}
 use Rattle.graph.specs.Peeling.{removal_list}
 use Rattle.graph.specs.Assignment.{values, landing, assigned_below}
-use Rattle.directory.specs.declared.Built.{Built}
-use Rattle.directory.specs.declared.Built.TheVariants as built
-use Rattle.directory.specs.declared.Opening.{Opening}
-use Rattle.directory.specs.declared.Opening.TheVariants as opening
-use Rattle.directory.specs.declared.Found.{Found}
-use Rattle.directory.specs.declared.Found.TheVariants as found
 use Rattle.directory.specs.Sizes.{Header, vertex_count, value_bytes, rank_entries}
 use Rattle.directory.specs.Bytes.{mark_length}
 use Rattle.directory.specs.Kind.{HD, vertex}
 use Rattle.directory.specs.Values.{value_in, rank_in}
 use Rattle.directory.specs.File.{values_at, weight_in, table_in, header_in}
 use Rattle.directory.specs.Building.{Lent, header, code_of, graph, line_of, length_needed, weight}
-use Rattle.directory.specs.Answers.{built_numbers}
+use Rattle.directory.specs.Answers.{Built, Opening, Found, built_numbers}
 use Rattle.directory.specs.Calls.{build_of, buffer_after_of, open_of, lookup_of, show_of, listing_of}
+use Rattle.directory.specs.Refusals.{number_of}
 
 pub data Saying : Type 0 where
   -- building is refused with this number and place, and no byte of the buffer changes
@@ -52,26 +47,26 @@ pub data Saying : Type 0 where
 -- ---- the tests
 
 is_done : Built → Bool
-is_done (built.Done most) = true
-is_done (built.Refused number place) = false
+is_done (Ok most) = true
+is_done (Err why) = false
 
 is_refused : ℕ → ℕ → Built → Bool
-is_refused number place (built.Done most) = false
-is_refused number place (built.Refused k p) = eqb k number && eqb p place
+is_refused number place (Ok most) = false
+is_refused number place (Err why) = eqb (number_of why.reason) number && eqb why.place place
 
 is_opened : Header → Opening → Bool
-is_opened h (opening.Opened n r v) = eqb n h.n && eqb r h.r && eqb v h.v
-is_opened h (opening.Refused number place) = false
+is_opened h (Ok g) = eqb g.n h.n && eqb g.r h.r && eqb g.v h.v
+is_opened h (Err why) = false
 
 is_at : ℕ → Found → Bool
-is_at l (found.At k) = eqb k l
-is_at l found.Unknown = false
-is_at l (found.Refused number place) = false
+is_at l (Ok (Some k)) = eqb k l
+is_at l (Ok None) = false
+is_at l (Err why) = false
 
 is_unknown : Found → Bool
-is_unknown (found.At l) = false
-is_unknown found.Unknown = true
-is_unknown (found.Refused number place) = false
+is_unknown (Ok (Some l)) = false
+is_unknown (Ok None) = true
+is_unknown (Err why) = false
 
 -- 0, 1, .. k-1
 up_to : ℕ → List ℕ

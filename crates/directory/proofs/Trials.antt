@@ -1,9 +1,8 @@
 -- What a call gives on any input, each a test of the definitions that the contracts cite. Assumes nothing.
 use Rattle.std.specs.Prelude.{Bool, List, [], ◌∷◌, ℕ, eqb}
 use Rattle.counting.specs.Lists.{same}
-use Rattle.directory.specs.declared.Opening.{Opening}
 use Rattle.directory.specs.Building.{Lent}
-use Rattle.directory.specs.Answers.{built_numbers, opening_numbers, found_numbers}
+use Rattle.directory.specs.Answers.{Opening, built_numbers, opening_numbers, found_numbers}
 use Rattle.directory.specs.Calls.{length_of, build_of, buffer_after_of, header_of, open_of, lookup_of, show_part_of, listing_of}
 use Rattle.directory.specs.Computing.{computing}
 

@@ -1,12 +1,10 @@
 -- What the calls give on the bytes that a build wrote: the first `length` bytes of the buffer afterwards. Assumes nothing.
-use Rattle.std.specs.Prelude.{◌≡◌, ◌⊎◌, ◌≢◌, List, ◌++◌, ℕ, ◌<◌, take}
+use Rattle.std.specs.Prelude.{Ok, Some, None, ◌≡◌, ◌⊎◌, ◌≢◌, List, ◌++◌, ℕ, ◌<◌, take}
 use Rattle.std.proofs.Common.{sym, ◌∙◌, arith, length-append, length-drop, take_at}
 use Rattle.std.proofs.Math.Path.{ap}
 use Rattle.std.proofs.Math.Logic.{⊎_elim}
 use Rattle.std.proofs.Math.ListN.{length, drop}
 use Rattle.graph.specs.Peeling.{number_left}
-use Rattle.directory.specs.declared.Opening.TheVariants.{Opened}
-use Rattle.directory.specs.declared.Found.TheVariants.{At, Unknown, Refused}
 use Rattle.directory.specs.Kind.{HD}
 use Rattle.directory.proofs.RefusalLaws.{given_or_none}
 use Rattle.directory.specs.Building.{Lent, Succeeds, header, code_of, graph, line_of, file_of, length_needed, build_refusals}
@@ -16,6 +14,9 @@ use Rattle.directory.proofs.BuildingLaws.{build_done, build_refused, after_done,
 use Rattle.directory.proofs.DoneLaws.{done_limits, done_nothing}
 use Rattle.directory.proofs.FileWholeLaws.{file-length, file_opens, code-found, line_shows, stranger, lines-below, lines_own, lines_onto}
 use Rattle.directory.specs.Calls.{length_of, build_of, buffer_after_of, open_of, lookup_of, show_of}
+use Rattle.directory.specs.declared.Reason.TheVariants.{WrongCode}
+use Rattle.directory.specs.Refusals.{refused}
+use Rattle.directory.specs.Sizes.{headed}
 
 module _ (I : Lent) where
   open I use {ends, r, v, buffer}
@@ -59,11 +60,11 @@ module _ (I : Lent) where
 
     -- ---- the calls
 
-    pub written_opens : open_of written ≡ Opened n r v
+    pub written_opens : open_of written ≡ Ok (headed n r v)
     unfolding open_of
     written_opens = rw written-file (file_opens HD I within nothing)
 
-    pub written-found : (k : ℕ) → k < n → lookup_of written (code_of HD I k) ≡ At (line_of HD I k)
+    pub written-found : (k : ℕ) → k < n → lookup_of written (code_of HD I k) ≡ Ok (Some (line_of HD I k))
     unfolding lookup_of
     written-found = rw written-file (code-found HD I within nothing)
 
@@ -71,7 +72,7 @@ module _ (I : Lent) where
     unfolding show_of
     written_shows = rw written-file (line_shows HD I within nothing)
 
-    pub written_stranger : (t : List ℕ) → ((k : ℕ) → k < n → code_of HD I k ≢ t) → (lookup_of written t ≡ Unknown) ⊎ (lookup_of written t ≡ Refused 16 0)
+    pub written_stranger : (t : List ℕ) → ((k : ℕ) → k < n → code_of HD I k ≢ t) → (lookup_of written t ≡ Ok None) ⊎ (lookup_of written t ≡ refused WrongCode 0)
     unfolding lookup_of
     written_stranger = rw written-file (stranger HD I within nothing)
 
@@ -84,8 +85,8 @@ module _ (I : Lent) where
     written_own = lines_own HD I within nothing
 
     -- every line is given to some code of the list
-    pub written_onto : (l : ℕ) → l < n → (k : ℕ) × (k < n) × (line_of HD I k ≡ l) × (lookup_of written (code_of HD I k) ≡ At l)
-    written_onto l m = let w = lines_onto HD I within nothing l m in (w.0, w.1, w.2, written-found w.0 w.1 ∙ ap At w.2)
+    pub written_onto : (l : ℕ) → l < n → (k : ℕ) × (k < n) × (line_of HD I k ≡ l) × (lookup_of written (code_of HD I k) ≡ Ok (Some l))
+    written_onto l m = let w = lines_onto HD I within nothing l m in (w.0, w.1, w.2, written-found w.0 w.1 ∙ ap (λ k. Ok (Some k)) w.2)
 
   -- a build leaves the buffer as long as it was
   pub after-length : length (buffer_after_of I) ≡ length buffer

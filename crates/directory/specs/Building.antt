@@ -1,17 +1,17 @@
 -- Building: the graph of a code list, the file, the refusals 1 to 8 in their order, the answer and the buffer afterwards. Assumes nothing.
-use Rattle.std.specs.Prelude.{◌≡◌, Bool, not, ◌||◌, List, [], ◌∷◌, ◌++◌, ℕ, ◌*◌, eqb, ltb, length, get_or, drop}
+use Rattle.std.specs.Prelude.{◌≡◌, Bool, not, ◌||◌, List, [], ◌∷◌, ◌++◌, ℕ, ◌*◌, eqb, ltb, length, get_or, drop, Ok}
 use Rattle.counting.specs.Below.{any, lowest}
 use Rattle.graph.specs.Graph.{Graph}
 use Rattle.graph.specs.Peeling.{number_left}
 use Rattle.graph.specs.Waiting.{most_waiting}
 use Rattle.graph.specs.Group.{Group}
 use Rattle.graph.specs.Assignment.{values, line, edge_of_line}
-use Rattle.directory.specs.declared.Built.{Built}
-use Rattle.directory.specs.declared.Built.TheVariants.{Done, Refused}
 use Rattle.directory.specs.Sizes.{Header, arity_allowed, part_allowed, codes_allowed, vertex_count}
 use Rattle.directory.specs.Codes.{code, wrong_code, run_missed, repeated}
 use Rattle.directory.specs.Kind.{Kind, vertex}
-use Rattle.directory.specs.Refusals.{Refusal, first}
+use Rattle.directory.specs.declared.Reason.TheVariants.{WrongArity, WrongPartSize, WrongWeights, TooManyCodes, WrongList, ShortBuffer, RepeatedCode, Cyclic}
+use Rattle.directory.specs.Refusals.{Refusal, first, ok_unless}
+use Rattle.directory.specs.Answers.{Built}
 use Rattle.directory.specs.File.{file, file_length}
 
 -- what is lent
@@ -28,7 +28,7 @@ lent run ends r v weights buffer = record { run = run; ends = ends; r = r; v = v
 
 -- an answer of success, whatever number it gives
 abbrev pub Succeeds : Built → Type 0
-Succeeds b = (most : ℕ) × (b ≡ Done most)
+Succeeds b = (most : ℕ) × (b ≡ Ok most)
 
 module _ (K : Kind) (I : Lent) where
   open K use {positions}
@@ -76,20 +76,20 @@ module _ (K : Kind) (I : Lent) where
   -- 1 to 6, of what is lent
   unfoldable pub lent_refusals : List Refusal
   lent_refusals =
-      record { number = 1; applies = not (arity_allowed r); place = 0 }
-      ∷ record { number = 2; applies = not (part_allowed r v); place = 0 }
-      ∷ record { number = 3; applies = not (eqb (length weights) (positions * r)); place = 0 }
-      ∷ record { number = 4; applies = not (codes_allowed n); place = 0 }
-      ∷ record { number = 5; applies = any n (wrong_code positions run ends) || run_missed run ends; place = lowest n (wrong_code positions run ends) }
-      ∷ record { number = 6; applies = ltb (length buffer) length_needed; place = length_needed }
+      record { reason = WrongArity; applies = not (arity_allowed r); place = 0 }
+      ∷ record { reason = WrongPartSize; applies = not (part_allowed r v); place = 0 }
+      ∷ record { reason = WrongWeights; applies = not (eqb (length weights) (positions * r)); place = 0 }
+      ∷ record { reason = TooManyCodes; applies = not (codes_allowed n); place = 0 }
+      ∷ record { reason = WrongList; applies = any n (wrong_code positions run ends) || run_missed run ends; place = lowest n (wrong_code positions run ends) }
+      ∷ record { reason = ShortBuffer; applies = ltb (length buffer) length_needed; place = length_needed }
       ∷ []
 
   -- 7 and 8, of the codes and of their graph
   abbrev repeated_code : Refusal
-  repeated_code = record { number = 7; applies = any n (repeated code_of); place = lowest n (repeated code_of) }
+  repeated_code = record { reason = RepeatedCode; applies = any n (repeated code_of); place = lowest n (repeated code_of) }
 
   abbrev cyclic : Refusal
-  cyclic = record { number = 8; applies = not (eqb (number_left graph) 0); place = number_left graph }
+  cyclic = record { reason = Cyclic; applies = not (eqb (number_left graph) 0); place = number_left graph }
 
   unfoldable pub graph_refusals : List Refusal
   graph_refusals = repeated_code ∷ cyclic ∷ []
@@ -99,8 +99,8 @@ module _ (K : Kind) (I : Lent) where
 
   -- success gives the most codes that wait at once
   unfoldable pub build : Built
-  build = first (Done (most_waiting graph)) Refused build_refusals
+  build = ok_unless (most_waiting graph) build_refusals
 
   -- the buffer afterwards: the file at its start and the bytes after it unchanged; on refusal no byte changes
   unfoldable pub buffer_after : List ℕ
-  buffer_after = first (file_of ++ drop length_needed buffer) (λ number place. buffer) build_refusals
+  buffer_after = first (file_of ++ drop length_needed buffer) (λ reason place. buffer) build_refusals

@@ -1,15 +1,12 @@
 -- What the public calls give back: the definitions that their contracts cite. The kind of a file is the one that its first mark names. Assumes nothing.
 use Rattle.std.specs.Prelude.{cond, List, ℕ}
 use Rattle.graph.specs.Waiting.{most_waiting}
-use Rattle.directory.specs.declared.Built.{Built}
-use Rattle.directory.specs.declared.Opening.{Opening}
-use Rattle.directory.specs.declared.Found.{Found}
 use Rattle.directory.specs.declared.Part.{Part}
 use Rattle.directory.specs.Sizes.{Header, headed, header_allowed}
 use Rattle.directory.specs.Kind.{Kind, HD}
-use Rattle.directory.specs.Refusals.{Refusal, first}
+use Rattle.directory.specs.Refusals.{Refusal, number_of, first}
 use Rattle.directory.specs.File.{file_length, header_in, lead_in}
-use Rattle.directory.specs.Answers.{found_numbers}
+use Rattle.directory.specs.Answers.{Built, Opening, Found, found_numbers}
 use Rattle.directory.specs.Building as building
 use Rattle.directory.specs.Opening as opening
 use Rattle.directory.specs.LookingUp as looking_up
@@ -44,11 +41,11 @@ lookup_of f t = looking_up.lookup (kind_of f) f t
 
 -- number, place and the most codes that waited at once
 unfoldable pub build_numbers_of : building.Lent → ℕ × ℕ × ℕ
-build_numbers_of I = first (0, 0, most_waiting (building.graph HD I)) (λ number place. (number, place, 0)) (building.build_refusals HD I)
+build_numbers_of I = first (0, 0, most_waiting (building.graph HD I)) (λ reason place. (number_of reason, place, 0)) (building.build_refusals HD I)
 
 -- by a table: number, place, n, r and v; success is 0, and so is its place; a refusal leaves n, r and v 0
 unfoldable pub open_numbers_by : List Refusal → Header → ℕ × ℕ × ℕ × ℕ × ℕ
-open_numbers_by table h = first (0, 0, h.n, h.r, h.v) (λ number place. (number, place, 0, 0, 0)) table
+open_numbers_by table h = first (0, 0, h.n, h.r, h.v) (λ reason place. (number_of reason, place, 0, 0, 0)) table
 
 unfoldable pub header_numbers_of : List ℕ → ℕ × ℕ × ℕ × ℕ × ℕ
 header_numbers_of f = let h = header_in f in open_numbers_by (opening.header_refusals (kind_of f) h f) h
@@ -61,7 +58,7 @@ unfoldable pub lookup_numbers_of : List ℕ → List ℕ → ℕ × ℕ × ℕ �
 lookup_numbers_of f t =
     let h = header_in f in
     let K = kind_of f in
-    first (found_numbers (looking_up.found K h f t (lead_in K h f t))) (λ number place. (2, number, place, 0)) (looking_up.lookup_refusals K h f t)
+    first (found_numbers (looking_up.found K h f t (lead_in K h f t))) (λ reason place. (2, number_of reason, place, 0)) (looking_up.lookup_refusals K h f t)
 
 -- ---- showing and listing
 

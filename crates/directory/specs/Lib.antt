@@ -3,6 +3,7 @@ pub mod Codes
 pub mod Kind
 pub mod Bytes
 pub mod Refusals
+pub mod Answers
 pub mod Values
 pub mod Leads
 pub mod File
@@ -14,6 +15,5 @@ pub mod Opening
 pub mod LookingUp
 pub mod Showing
 pub mod Listing
-pub mod Answers
 pub mod Calls
 pub mod Computing

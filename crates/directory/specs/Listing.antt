@@ -2,7 +2,7 @@
 use Rattle.std.specs.Prelude.{true, false, cond, List, [], ◌∷◌, ◌++◌, ℕ, zero, suc, ◌+◌, ◌-◌, ◌/◌, ◌%◌, ltb}
 use Rattle.counting.specs.Lists.{each}
 use Rattle.directory.specs.Kind.{Kind}
-use Rattle.directory.specs.Refusals.{first}
+use Rattle.directory.specs.Refusals.{number_of, first}
 use Rattle.directory.specs.File.{header_in}
 use Rattle.directory.specs.Opening.{open_refusals}
 use Rattle.directory.specs.Showing.{shown}
@@ -47,4 +47,4 @@ unfoldable pub refused_line : ℕ → ℕ → List ℕ
 refused_line number place = refused_word ++ blank ∷ decimal number ++ blank ∷ decimal place ++ newline ∷ []
 
 unfoldable pub listing : Kind → List ℕ → List ℕ
-listing K f = let h = header_in f in first (each h.n (λ l. listed_line l (shown K f l))) refused_line (open_refusals K h f)
+listing K f = let h = header_in f in first (each h.n (λ l. listed_line l (shown K f l))) (λ reason place. refused_line (number_of reason) place) (open_refusals K h f)

@@ -1,13 +1,13 @@
 -- Opening: the refusals 9 to 15 in their order, and the answer. Assumes nothing.
 use Rattle.std.specs.Prelude.{Bool, not, ◌||◌, List, [], ◌∷◌, ◌++◌, ℕ, ◌+◌, ◌-◌, eqb, ltb, length}
 use Rattle.counting.specs.Below.{any, lowest}
-use Rattle.directory.specs.declared.Opening.{Opening}
-use Rattle.directory.specs.declared.Opening.TheVariants.{Opened, Refused}
 use Rattle.directory.specs.Sizes.{Header, header_allowed}
 use Rattle.directory.specs.Codes.{wrong_length}
 use Rattle.directory.specs.Kind.{Kind}
 use Rattle.directory.specs.Bytes.{byte_at, WT, GV, RK, KY, marked}
-use Rattle.directory.specs.Refusals.{Refusal, first}
+use Rattle.directory.specs.declared.Reason.TheVariants.{WrongSize, WrongMark, WrongHeader, WrongKey, StrayCode}
+use Rattle.directory.specs.Refusals.{Refusal, ok_unless}
+use Rattle.directory.specs.Answers.{Opening}
 use Rattle.directory.specs.Values.{ranks_at, table_refusals}
 use Rattle.directory.specs.Leads.{leads_to}
 use Rattle.directory.specs.File.{header_length, weights_at, values_at, key_at, code_at, file_length, header_in, table_in, key_length, stored_code, lead_in}
@@ -19,16 +19,16 @@ module _ (K : Kind) (h : Header) (f : List ℕ) where
   -- what every call on a file looks at first: under 7 bytes, the first mark, the header's numbers, the length that they call for
   unfoldable pub header_refusals : List Refusal
   header_refusals =
-      record { number = 9; applies = ltb (length f) header_length; place = 0 }
-      ∷ record { number = 10; applies = not (marked f 0 mark); place = 0 }
-      ∷ record { number = 11; applies = not (header_allowed h); place = 0 }
-      ∷ record { number = 9; applies = not (eqb (length f) (file_length K h)); place = 0 }
+      record { reason = WrongSize; applies = ltb (length f) header_length; place = 0 }
+      ∷ record { reason = WrongMark; applies = not (marked f 0 mark); place = 0 }
+      ∷ record { reason = WrongHeader; applies = not (header_allowed h); place = 0 }
+      ∷ record { reason = WrongSize; applies = not (eqb (length f) (file_length K h)); place = 0 }
       ∷ []
 
   -- ---- the other marks, in file order
 
   unfoldable pub wrong_mark : ℕ → ℕ × ℕ → Refusal
-  wrong_mark at mark = record { number = 10; applies = not (marked f at mark); place = at }
+  wrong_mark at mark = record { reason = WrongMark; applies = not (marked f at mark); place = at }
 
   unfoldable pub key_unmarked : ℕ → Bool
   key_unmarked l = not (marked f (key_at K h l) KY)
@@ -38,7 +38,7 @@ module _ (K : Kind) (h : Header) (f : List ℕ) where
       wrong_mark (weights_at K h) WT
       ∷ wrong_mark (values_at K h) GV
       ∷ wrong_mark (values_at K h + ranks_at h) RK
-      ∷ record { number = 10; applies = any n key_unmarked; place = key_at K h (lowest n key_unmarked) }
+      ∷ record { reason = WrongMark; applies = any n key_unmarked; place = key_at K h (lowest n key_unmarked) }
       ∷ []
 
   -- ---- the KY records
@@ -56,8 +56,8 @@ module _ (K : Kind) (h : Header) (f : List ℕ) where
 
   unfoldable pub key_refusals : List Refusal
   key_refusals =
-      record { number = 14; applies = any n key_wrong; place = lowest n key_wrong }
-      ∷ record { number = 15; applies = any n astray; place = lowest n astray }
+      record { reason = WrongKey; applies = any n key_wrong; place = lowest n key_wrong }
+      ∷ record { reason = StrayCode; applies = any n astray; place = lowest n astray }
       ∷ []
 
   -- ---- all of them
@@ -71,13 +71,9 @@ module _ (K : Kind) (h : Header) (f : List ℕ) where
 
 -- ---- the answer
 
--- by the refusals of a table: n, r and v where none applies
-unfoldable pub opened_unless : Header → List Refusal → Opening
-opened_unless h table = first (Opened h.n h.r h.v) Refused table
-
 -- the header alone, without a look at the rest
 unfoldable pub header : Kind → List ℕ → Opening
-header K f = let h = header_in f in opened_unless h (header_refusals K h f)
+header K f = let h = header_in f in ok_unless h (header_refusals K h f)
 
 unfoldable pub opening : Kind → List ℕ → Opening
-opening K f = let h = header_in f in opened_unless h (open_refusals K h f)
+opening K f = let h = header_in f in ok_unless h (open_refusals K h f)

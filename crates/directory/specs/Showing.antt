@@ -2,6 +2,7 @@
 use Rattle.std.specs.Prelude.{◌≡◌, not, ◌||◌, cond, List, ℕ, ◌+◌, ◌≤◌, ◌<◌, ltb, take, drop}
 use Rattle.std.specs.Borrow.{Bor}
 use Rattle.directory.specs.declared.Part.{Part}
+use Rattle.directory.specs.declared.Reason.{Reason}
 use Rattle.directory.specs.Sizes.{Header}
 use Rattle.directory.specs.Codes.{wrong_length}
 use Rattle.directory.specs.Kind.{Kind}
@@ -31,7 +32,7 @@ key_part K h f l =
 
 -- nothing where 9, 10 or 11 applies
 unfoldable pub shown_part : Kind → List ℕ → ℕ → Part
-shown_part K f l = let h = header_in f in first (key_part K h f l) (λ number place. empty_part) (header_refusals K h f)
+shown_part K f l = let h = header_in f in first (key_part K h f l) (λ reason place. empty_part) (header_refusals K h f)
 
 unfoldable pub shown : Kind → List ℕ → ℕ → List ℕ
 shown K f l = bytes_of f (shown_part K f l)
@@ -40,7 +41,7 @@ shown K f l = bytes_of f (shown_part K f l)
 
 -- a line shows nothing where 9, 10 or 11 applies, the line is n or more, or the stored length is 0 or over 32
 pub data ShowsNothing (K : Kind) (f : List ℕ) (l : ℕ) : Type 0 where
-  refused : (number place : ℕ) → Given (header_refusals K (header_in f) f) number place → ShowsNothing K f l
+  refused : (reason : Reason) (place : ℕ) → Given (header_refusals K (header_in f) f) reason place → ShowsNothing K f l
   past_last : (header_in f).n ≤ l → ShowsNothing K f l
   length_zero : key_length K (header_in f) f l ≡ 0 → ShowsNothing K f l
   length_over : K.positions < key_length K (header_in f) f l → ShowsNothing K f l

@@ -1,6 +1,7 @@
 -- The sizes that document 01 allows: its table "Sizes", and what they come to in a file. Assumes nothing.
 use Rattle.std.specs.Prelude.{Bool, ◌&&◌, ◌||◌, ℕ, ◌+◌, ◌*◌, ◌/◌, eqb, ltb, leb}
 use Rattle.graph.specs.Assignment.{blocks}
+use Rattle.directory.specs.declared.Header as declared
 
 abbrev pub most_vertices : ℕ
 most_vertices = 4096
@@ -21,10 +22,8 @@ unfoldable pub codes_allowed : ℕ → Bool
 codes_allowed n = leb n most_codes
 
 -- the numbers of the header: how many codes, the arity and the part size
-pub record Header : Type 0 where
-  pub n : ℕ
-  pub r : ℕ
-  pub v : ℕ
+abbrev pub Header : Type 0
+Header = declared.Header
 
 -- the header with the numbers n, r and v
 abbrev pub headed : ℕ → ℕ → ℕ → Header

@@ -5,6 +5,7 @@ use Rattle.counting.specs.Lists.{each}
 use Rattle.graph.specs.Assignment.{assigned, assigned_below, block_size, rank_entry}
 use Rattle.directory.specs.Sizes.{Header, vertex_count, value_bytes, rank_entries}
 use Rattle.directory.specs.Bytes.{two, two_in, mark_length, GV, RK, under}
+use Rattle.directory.specs.declared.Reason.TheVariants.{WrongValue, WrongRank}
 use Rattle.directory.specs.Refusals.{Refusal}
 
 -- ---- what is written
@@ -66,8 +67,8 @@ module _ (h : Header) where
     -- the lowest such vertex, m for spare bits; the lowest such entry, ceil(m/64) for the total
     unfoldable pub table_refusals : List Refusal
     table_refusals =
-        record { number = 12; applies = any m value_over || spare_set; place = lowest m value_over }
-        ∷ record { number = 13; applies = any (rank_entries h) rank_wrong || total_wrong; place = lowest (rank_entries h) rank_wrong }
+        record { reason = WrongValue; applies = any m value_over || spare_set; place = lowest m value_over }
+        ∷ record { reason = WrongRank; applies = any (rank_entries h) rank_wrong || total_wrong; place = lowest (rank_entries h) rank_wrong }
         ∷ []
 
     -- the line of an assigned vertex y: the rank entry of its block, and the stored values other than r from the start of the block up to y
