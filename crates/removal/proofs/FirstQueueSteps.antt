@@ -1,11 +1,11 @@
 -- One turn of the loop that makes the first queue, over the arrays. Assumes nothing.
 -- D, M and O stand for the arrays of degrees, marks and order.
-use Rattle.std.specs.Prelude.{◌≡◌, refl, Bool, true, false, List, [], ◌∷◌, ◌++◌, ℕ, ◌+◌, ◌≤◌, ◌<◌, eqb, ltb, length, get_or, set, take}
+use Rattle.std.specs.Prelude.{◌≡◌, refl, Bool, true, false, List, [], ◌∷◌, ◌++◌, ℕ, ◌+◌, ◌≤◌, ◌<◌, eqb, ltb, length, get_or, set, take, Option, Some, None, is_some}
 use Rattle.std.proofs.Common.{sym, ◌∙◌, arith, take-suc-set, lt-ltb, le-ltb}
 use Rattle.std.proofs.Math.Path.{ap}
 use Rattle.std.proofs.Math.Numerals.{add-one}
 use Rattle.std.proofs.Math.ListN.{length-set}
-use Rattle.counting.specs.Below.{bit, any, lowest, those}
+use Rattle.counting.specs.Below.{bit, any, lowest, those, FindsLowest}
 use Rattle.counting.proofs.SearchLaws.{any_equal, any-lowest}
 use Rattle.counting.specs.Lists.{occurrences}
 use Rattle.counting.proofs.OccurrenceLaws.{those_once}
@@ -68,14 +68,15 @@ starting_all {G} {e = e} s h =
       marks = λ f l. omega (arith, s.marks f (omega arith), those_once G.edges (has_one G) f l);
     }
 
--- ---- the lowest vertex of degree 1 tells whether there is one
+-- ---- the search for a vertex of degree 1 tells whether there is one
 
-module _ {n r m : ℕ} {edges : List ℕ} (held : Held n r m edges) (D : List ℕ) (counted : Holds m (degree (graph_in n r m edges) []) D) {e j : ℕ} (l : e < n) (i : j ≡ lowest r (λ k. eqb (get_or D (vertex_at r edges e k) 0) 1)) where
-  is_below : has_one (graph_in n r m edges) e ≡ ltb j r
-  is_below = any_equal r _ _ (λ k b. ap (λ d. eqb d 1) (sym (counted (vertex_at r edges e k) (held.proper.inside e k l b)))) ∙ any-lowest r _ ∙ ap (λ k. ltb k r) (sym i)
+module _ {n r m : ℕ} {edges : List ℕ} (held : Held n r m edges) (D : List ℕ) (counted : Holds m (degree (graph_in n r m edges) []) D) {e : ℕ} (l : e < n) where
+  abbrev test : ℕ → Bool
+  test k = eqb (get_or D (vertex_at r edges e k) 0) 1
 
-  pub has_one_lem : j < r → has_one (graph_in n r m edges) e ≡ true
-  has_one_lem h = is_below ∙ lt-ltb j r h
+  is_below : has_one (graph_in n r m edges) e ≡ ltb (lowest r test) r
+  is_below = any_equal r _ _ (λ k b. ap (λ d. eqb d 1) (sym (counted (vertex_at r edges e k) (held.proper.inside e k l b)))) ∙ any-lowest r _
 
-  pub has_none : r ≤ j → has_one (graph_in n r m edges) e ≡ false
-  has_none h = is_below ∙ le-ltb j r h
+  pub has_found : (found : Option ℕ) → FindsLowest r test found → has_one (graph_in n r m edges) e ≡ is_some found
+  has_found (Some j) f = is_below ∙ lt-ltb (lowest r test) r (omega (arith, f.0, f.1))
+  has_found None f = is_below ∙ le-ltb (lowest r test) r (omega (arith, f))

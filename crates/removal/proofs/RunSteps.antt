@@ -1,8 +1,10 @@
 -- The whole run of the peeling, over the arrays: its start, the count from step to step, and its end. Assumes nothing.
 -- D, C, M and O stand for the arrays of degrees, index sums, marks and order; a prime marks what has become of one.
-use Rattle.std.specs.Prelude.{◌≡◌, List, [], ℕ, suc, ◌+◌, ◌-◌, ◌≤◌, ◌<◌, length, take}
-use Rattle.std.proofs.Common.{sym, ap, ◌∙◌, arith, length-take, length-drop, drop_of_length-le, length-take-le}
+use Rattle.std.specs.Prelude.{◌≡◌, List, [], ℕ, suc, ◌+◌, ◌-◌, ◌≤◌, ◌<◌, max, length, take}
+use Rattle.std.proofs.Common.{sym, ap, ◌∙◌, ⊎_elim, arith, length-take, length-drop, drop_of_length-le, length-take-le}
 use Rattle.counting.specs.Larger.{larger}
+use Rattle.counting.proofs.LargerLaws.{larger-first, larger_second}
+use Rattle.counting.proofs.TestLaws.{lt?}
 use Rattle.graph.specs.Graph.{Graph}
 use Rattle.graph.specs.Peeling.{unremoved, first_waiting, removal_list}
 use Rattle.graph.specs.Run.{start}
@@ -40,13 +42,21 @@ running_start {n} {r} {m} {edges} {O = O} {tail} s =
       counted = rw (all, s.is_first) (rw many at (counted_start (graph_in n r m edges)));
     }
 
-pub running_step : {n r m : ℕ} {edges D C M O : List ℕ} {head tail most : ℕ} → Running n r m edges D C M O head tail most → head < tail → {D' C' M' O' : List ℕ} {t : ℕ} → Going n r m edges D' C' M' O' (head + 1) t → Stepped (graph_in n r m edges) O head tail O' t → Running n r m edges D' C' M' O' (head + 1) t (larger most (t - (head + 1)))
-running_step {n} {O = O} {head} {tail} s l {O' = O'} {t} g p =
+-- the larger of two is the library's maximum
+pub larger-max : (a b : ℕ) → larger a b ≡ max a b
+larger-max a b =
+    ⊎_elim
+    (λ (l : a < b). omega (arith, larger_second a b (omega arith)))
+    (λ (l : b ≤ a). omega (arith, larger-first a b l))
+    (lt? a b)
+
+pub running_step : {n r m : ℕ} {edges D C M O : List ℕ} {head tail most : ℕ} → Running n r m edges D C M O head tail most → head < tail → {D' C' M' O' : List ℕ} {t : ℕ} → Going n r m edges D' C' M' O' (head + 1) t → Stepped (graph_in n r m edges) O head tail O' t → {most' : ℕ} → most' ≡ larger most (t - (head + 1)) → Running n r m edges D' C' M' O' (head + 1) t most'
+running_step {n} {O = O} {head} {tail} s l {O' = O'} {t} g p e =
     let k : n - head ≡ suc (n - (head + 1)) = omega (arith, s.going.high) in
     let more = removed_more s.going l in
     record {
       going = g;
-      counted = rw (← many_wait g, p.waiting, p.removed, more) (counted_step _ (rw (k, front s.going l) at s.counted));
+      counted = rw (e, ← many_wait g, p.waiting, p.removed, more) (counted_step _ (rw (k, front s.going l) at s.counted));
     }
 
 -- at the end none waits

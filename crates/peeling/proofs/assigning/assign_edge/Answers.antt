@@ -15,8 +15,8 @@ returns c =
     let a = c.args in
     let seen = c.visit-seen.result in
     let e = c.visit-seen.ensures in
-    let home : c.vertex-x.result ≡ free_vertex a.r a.e a.edges.now a.visited.now = c.vertex-x.ensures ∙ ap (vertex_at a.r a.edges.now a.e) e.is_first in
-    let some : 1 ≤ a.r = omega (arith, c.requires.some) in
-    let most : seen.total ≤ a.r * a.r = omega (arith, e.is_total, sum_square c.requires.visitable) in
-    let given = minus_mod_square a.r seen.first seen.total some most ∙ ap (λ j. minus_mod a.r j seen.total) e.is_first ∙ ap (minus_mod a.r _) e.is_total in
+    let home : c.vertex-x.result ≡ free_vertex a.edges.r a.e a.edges.list.now a.visited.now = c.vertex-x.ensures ∙ ap (vertex_at a.edges.r a.edges.list.now a.e) e.is_first in
+    let some : 1 ≤ a.edges.r = omega (arith, c.requires.some) in
+    let most : seen.total ≤ a.edges.r * a.edges.r = omega (arith, e.is_total, sum_square c.requires.visitable) in
+    let given = minus_mod_square a.edges.r seen.first seen.total some most ∙ ap (λ j. minus_mod a.edges.r j seen.total) e.is_first ∙ ap (minus_mod a.edges.r _) e.is_total in
     record { marks = e.marks; noted = rw home; given = rw (home, given) }

@@ -1,9 +1,6 @@
--- `peeling::assigning::visit`. The invariant: the vertices from number j on are seen. The measure is j. Assumes nothing.
+-- `peeling::assigning::visit`. The invariant: the vertices from number j on are seen. Assumes nothing.
 use Rattle.peeling.proofs.VisitingSteps.{Seen}
 use Rattle.peeling.proofs.assigning.visit.Given as goal
 
 abbrev pub invariant-loop-j : goal.invariant-loop-j
-invariant-loop-j l = Seen l.j l.r l.e l.edges l.initial.visited l.values l.visited l.first l.total
-
-abbrev pub decreases-loop-j : goal.decreases-loop-j
-decreases-loop-j l = l.j
+invariant-loop-j l = Seen l.j l.edges.r l.e l.edges.list.now l.initial.visited l.values l.visited l.first l.total

@@ -1,19 +1,17 @@
--- `removal::tally::link` meets its contract. The invariant: the first j vertices of the edge are counted. The measure is what is left of r. Assumes nothing.
-use Rattle.std.proofs.Common.{arith, length-set, refl, ◌∙◌}
+-- `removal::tally::link` meets its contract: each turn counts one vertex of the edge more. Assumes nothing.
+use Rattle.std.proofs.Common.{arith}
 use Rattle.removal.proofs.LinkingSteps.{added_none, LinkTurn, link_turn}
 use Rattle.removal.proofs.tally.link.Goals as goal
 use Rattle.removal.proofs.tally.link.Goals.{After-vertex-x}
 
-turn : (c : After-vertex-x) → let a = c.args in let v = c.loop-j in LinkTurn a.r a.e a.edges.now v.j c.vertex-x.result a.degrees.now a.sums.now v.degrees v.sums
-turn c = let v = c.loop-j in link_turn c.requires v.invariant.3 c.loop-j-test.true v.invariant.1 v.invariant.2 c.vertex-x.ensures
+turn : (c : After-vertex-x) → let a = c.args in let v = c.loop-j in LinkTurn a.edges.r a.e a.edges.list.now v.j c.vertex-x.result a.degrees.now a.sums.now v.degrees v.sums
+turn c = let v = c.loop-j in link_turn c.requires v.invariant c.loop-j-test.true v.auto.degrees v.auto.sums c.vertex-x.ensures
 
 pub loop-j-init : goal.loop-j-init
-loop-j-init c = (omega arith, refl, refl, added_none _ _ _ _ _)
+loop-j-init c = added_none _ _ _ _ _
 
 pub loop-j-preserved : goal.loop-j-preserved
-loop-j-preserved c =
-    let v = c.loop-j in
-    (omega arith, length-set v.degrees _ _ ∙ v.invariant.1, length-set v.sums _ _ ∙ v.invariant.2, (turn (goal.at.loop-j-preserved c).After-vertex-x).added)
+loop-j-preserved c = (turn (goal.at.loop-j-preserved c).After-vertex-x).added
 
 pub overflow_add-degrees : goal.overflow_add-degrees
 overflow_add-degrees c = omega (arith, (turn (goal.at.overflow_add-degrees c).After-vertex-x).degree_fits)
