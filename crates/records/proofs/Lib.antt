@@ -1,4 +1,3 @@
-pub mod SizeSteps
 pub mod StandingLaws
 pub mod FramedLaws
 pub mod ComparingLaws

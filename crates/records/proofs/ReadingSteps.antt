@@ -1,41 +1,22 @@
--- What the functions that read add up: the values of two or three vertices, and the assigned values. Assumes nothing.
-use Rattle.std.specs.Prelude.{◌≡◌, refl, ◌≢◌, Bool, true, false, not, List, ℕ, ◌+◌, ◌-◌, ◌*◌, ◌/◌, ◌%◌, ◌^◌, ◌≤◌, ◌<◌}
-use Rattle.std.proofs.Common.{sym, ap, ◌∙◌, arith, eq-eqb, ne_eqb}
+-- What the functions that count the assigned values add up. Assumes nothing.
+use Rattle.std.specs.Prelude.{◌≡◌, refl, Bool, true, false, List, ℕ, ◌+◌, ◌-◌, ◌*◌, ◌/◌, ◌%◌, ◌^◌, ◌≤◌, ◌<◌, length, take, drop, get_or}
+use Rattle.std.proofs.Common.{sym, ap, ◌∙◌, arith, length-take, get_or-take, get_or-drop}
 use mir.Val.{bool_byte}
-use Rattle.counting.specs.Below.{bit, sum, count}
+use Rattle.counting.specs.Below.{bit, count}
 use Rattle.counting.proofs.BelowLaws.{sum_split, sum_equal}
-use Rattle.counting.proofs.CountLaws.{count_in, count_out}
 use Rattle.graph.specs.Assignment.{assigned}
 use Rattle.directory.specs.Bytes.{byte_at, mark_length}
 use Rattle.directory.specs.Values.{value_in}
 use Rattle.records.specs.Standing.{bytes_from}
 
--- ---- the values of the vertices
-
-module _ (f : ℕ → ℕ) {r a b : ℕ} (first : a ≡ f 0) (second : b ≡ f 1) where
-  pub sum_of_two : r ≡ 2 → a + b ≡ sum r f
-  unfolding sum
-  sum_of_two e = rw e (omega arith)
-
-  pub sum_of_three : {c : ℕ} → c ≡ f 2 → r ≡ 3 → a + b + c ≡ sum r f
-  unfolding sum
-  sum_of_three third e = rw e (omega arith)
-
--- ---- the assigned values
-
-module _ (r : ℕ) (value : ℕ → ℕ) (from k x : ℕ) (e : x ≡ value (from + k)) where
-  pub assigned_counts : x ≢ r → count (k + 1) (λ i. assigned r (value (from + i))) ≡ count k (λ i. assigned r (value (from + i))) + 1
-  assigned_counts d = count_in k (λ i. assigned r (value (from + i))) (ap not (ne_eqb (value (from + k)) r (λ i. d (e ∙ i))))
-
-  pub unassigned_counts_not : x ≡ r → count (k + 1) (λ i. assigned r (value (from + i))) ≡ count k (λ i. assigned r (value (from + i)))
-  unassigned_counts_not i = count_out k (λ i. assigned r (value (from + i))) (ap not (eq-eqb (value (from + k)) r (sym e ∙ i)))
-
--- ---- four values in a byte
-
 -- a truth as a number of the machine
 pub told_as_bit : (b : Bool) → bool_byte b ≡ bit b
 told_as_bit true = refl
 told_as_bit false = refl
+
+-- byte i of a part of a file, where it stands
+pub byte_of_part : (f : List ℕ) (start size at i : ℕ) → i < length (take size (drop start f)) → start + i ≡ at → get_or (take size (drop start f)) i 0 ≡ byte_at f at
+byte_of_part f start size at i m e = get_or-take size (drop start f) i 0 (omega (arith, length-take size (drop start f))) ∙ get_or-drop start f i 0 ∙ ap (byte_at f) e
 
 -- value k of byte i from place `from` on, the first of its byte
 value_of_four : (f : List ℕ) (at from i b k : ℕ) → from % 4 ≡ 0 → k < 4 → b ≡ byte_at f (at + (mark_length + (from / 4 + i))) → value_in (bytes_from f at) (from + (4 * i + k)) ≡ b / 2 ^ (2 * k) % 4

@@ -1,6 +1,5 @@
--- Bytes compared with those of a code: one by one, or several at once as one number. Assumes nothing.
+-- Bytes as one number, and a part of a file that begins with the bytes of a code. Assumes nothing.
 use Rattle.std.specs.Prelude.{◌≡◌, List, ℕ, zero, suc, ◌+◌, ◌*◌, ◌<◌, get_or}
-use Rattle.directory.specs.Bytes.{two_at}
 
 -- k bytes as one number, the low ones first
 unfoldable pub number : ℕ → (ℕ → ℕ) → ℕ
@@ -10,13 +9,6 @@ number (suc k) B = B 0 + 256 * number k (λ j. B (suc j))
 -- those of a list from a on
 abbrev pub number_at : ℕ → List ℕ → ℕ → ℕ
 number_at k f a = number k (λ j. get_or f (a + j) 0)
-
--- four bytes as two numbers of two, and how many numbers they hold
-abbrev pub four_at : List ℕ → ℕ → ℕ
-four_at f a = two_at f a + 65_536 * two_at f (a + 2)
-
-abbrev pub four_bytes : ℕ
-four_bytes = 4_294_967_296
 
 -- the bytes of f from `at` on begin with the first i of t
 abbrev pub Begins : List ℕ → ℕ → List ℕ → ℕ → Type 0

@@ -2,15 +2,20 @@
 ghost use Rattle.std.specs.Prelude.{◌≡◌, ◌+◌, ◌<◌, length};
 ghost use Rattle.counting.specs.Widths.{one_byte, two_bytes};
 ghost use Rattle.directory.specs.Bytes.{byte_at, two_at, marked as markedAt};
-ghost use Rattle.records.specs.Comparing.{four_bytes, four_at, number_at};
 
 // So many numbers does a byte hold.
 pub const BYTE: usize = 256;
 
-// So many do two bytes, and four.
-const TWO_BYTES: usize = 65_536;
+// The two letters of each mark.
+pub const HD: (u8, u8) = (b'H', b'D');
 
-const FOUR_BYTES: usize = 4_294_967_296;
+pub const WT: (u8, u8) = (b'W', b'T');
+
+pub const GV: (u8, u8) = (b'G', b'V');
+
+pub const RK: (u8, u8) = (b'R', b'K');
+
+pub const KY: (u8, u8) = (b'K', b'Y');
 
 // A byte, as a number.
 pub fn byte(file: &[u8], at: usize) -> usize
@@ -25,29 +30,14 @@ pub fn two(file: &[u8], at: usize) -> usize
     requires { at + 1 < length file.now }
     ensures { (result ≡ two_at file.now at) × (result < two_bytes) }
 {
-    byte(file, at) + BYTE * byte(file, at + 1)
+    u16::from_le_bytes([file[at], file[at + 1]]) as usize
 }
 
-// A number in four bytes.
-fn four(file: &[u8], at: usize) -> usize
-    requires { at + 3 < length file.now }
-    ensures { (result ≡ four_at file.now at) × (result < four_bytes) }
-{
-    two(file, at) + TWO_BYTES * two(file, at + 2)
-}
-
-// A number in eight bytes.
-pub fn eight(file: &[u8], at: usize) -> usize
-    requires { at + 7 < length file.now }
-    ensures { result ≡ number_at 8 file.now at }
-{
-    four(file, at) + FOUR_BYTES * four(file, at + 4)
-}
-
-// Whether the mark of these two letters stands at an offset.
-pub fn marked(file: &[u8], at: usize, a: u8, b: u8) -> bool
+// Whether a mark stands at an offset. Letter by letter, as the definition: a mark is a pair there, and an equality of slices would need an array first.
+#[tactic(auto, unfolding(directory::specs::Bytes::marked))]
+pub fn marked(file: &[u8], at: usize, mark: (u8, u8)) -> bool
     requires { at + 1 < length file.now }
-    ensures { result ≡ markedAt file.now at (a, b) }
+    ensures { result ≡ markedAt file.now at (mark.0, mark.1) }
 {
-    file[at] == a && file[at + 1] == b
+    file[at] == mark.0 && file[at + 1] == mark.1
 }

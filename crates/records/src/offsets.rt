@@ -3,6 +3,8 @@ ghost use Rattle.std.specs.Prelude.{◌≡◌, ◌≤◌};
 ghost use Rattle.directory.specs.Sizes.{most_codes};
 ghost use Rattle.records.specs.Standing.{Room, values_from, ranks_from, key_from, code_from};
 
+use directory::Header;
+
 // The header: its mark, n, r and v.
 pub const HEADER: usize = 7;
 
@@ -26,36 +28,37 @@ pub const BLOCK: usize = 64;
 const KEY_HEAD: usize = 3;
 
 // The values stand here, under the mark of GV.
-pub fn values_at(r: usize) -> usize
-    requires { r ≤ 3 }
-    ensures { result ≡ values_from r }
+pub fn values_at(h: Header) -> usize
+    requires { h.r ≤ 3 }
+    ensures { result ≡ values_from h.r }
 {
-    HEADER + (MARK + NUMBER * (POSITIONS * r))
+    HEADER + (MARK + NUMBER * (POSITIONS * h.r))
 }
 
 // The rank entries stand here, under the mark of RK.
-pub fn ranks_at(r: usize, v: usize) -> usize
-    requires { Room r v }
-    ensures { result ≡ ranks_from r v }
+// `Room` stays a clause: reader::header and the builder ask where a file would end before there is one, so `Tables` cannot carry it for them.
+pub fn ranks_at(h: Header) -> usize
+    requires { Room h.r h.v }
+    ensures { result ≡ ranks_from h }
 {
-    values_at(r) + (MARK + (r * v + (PER_BYTE - 1)) / PER_BYTE)
+    values_at(h) + (MARK + (h.r * h.v).div_ceil(PER_BYTE))
 }
 
 // The KY record of line l stands here, and the file ends where that of line n would.
-pub fn key_at(r: usize, v: usize, l: usize) -> usize
-    requires room { Room r v }
+pub fn key_at(h: Header, l: usize) -> usize
+    requires room { Room h.r h.v }
     requires few { l ≤ most_codes }
-    ensures { result ≡ key_from r v l }
+    ensures { result ≡ key_from h l }
 {
-    let keys = ranks_at(r, v) + (MARK + NUMBER * ((r * v + (BLOCK - 1)) / BLOCK));
+    let keys = ranks_at(h) + (MARK + NUMBER * (h.r * h.v).div_ceil(BLOCK));
     keys + (KEY_HEAD + POSITIONS) * l
 }
 
 // The code of line l stands here, after its mark and length.
-pub fn code_at(r: usize, v: usize, l: usize) -> usize
-    requires room { Room r v }
+pub fn code_at(h: Header, l: usize) -> usize
+    requires room { Room h.r h.v }
     requires few { l ≤ most_codes }
-    ensures { result ≡ code_from r v l }
+    ensures { result ≡ code_from h l }
 {
-    key_at(r, v, l) + KEY_HEAD
+    key_at(h, l) + KEY_HEAD
 }

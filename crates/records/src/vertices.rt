@@ -2,42 +2,36 @@
 ghost use Rattle.std.specs.Prelude.{◌≡◌, ℕ, ◌*◌, ◌≤◌, ◌<◌, length, get_or};
 ghost use Rattle.counting.specs.Below.{sum};
 ghost use Rattle.counting.specs.Holds.{Holds};
-ghost use Rattle.directory.specs.Sizes.{headed};
 ghost use Rattle.directory.specs.Kind.{HD, vertex as vertex_of};
 ghost use Rattle.directory.specs.Values.{value_in};
 ghost use Rattle.directory.specs.Whole.{landing_of};
-ghost use Rattle.records.specs.Standing.{Tabled, most_bytes, weight_of, bytes_from, values_from};
+ghost use Rattle.records.specs.Standing.{weight_of, bytes_from, values_from};
 
-use crate::adding::{code_sums, vertex};
+use crate::adding::{self, Stored};
 use crate::offsets::{MOST_PARTS, values_at};
 use crate::sizes::FEWEST_PARTS;
+use crate::standing::{Code, Tables};
 use crate::values::value;
 
-// Notes the vertices of a code, as many as there are parts.
-fn name_vertices(file: &[u8], r: usize, v: usize, code: &[u8], vertices: &mut [usize])
-    requires tabled { Tabled r v file.now }
-    requires short { length code.now ≤ most_bytes }
-    requires even { r ≤ length vertices.old }
-    ensures { Holds r (vertex_of HD v (weight_of file.now) code.now) vertices.new }
+// The vertices of a code by the stored weights.
+fn name_vertices(tables: Tables, code: Code) -> [usize; MOST_PARTS]
+    ensures { Holds tables.entry.header.r (vertex_of HD tables.entry.header.v (weight_of tables.entry.file.now) code.entry.bytes.now) result }
 {
-    let sums = code_sums(file, r, code);
-    vertices[0] = vertex(sums.first, v, 0);
-    vertices[1] = vertex(sums.second, v, 1);
-    if FEWEST_PARTS < r {
-        vertices[2] = vertex(sums.third, v, 2);
-    }
+    let Tables { file, header } = tables;
+    adding::name_vertices(&Stored { file }, header.r, header.v, code)
 }
 
-// The sum of the values of r vertices.
-fn value_sum(file: &[u8], r: usize, v: usize, vertices: &[usize]) -> usize
-    requires tabled { Tabled r v file.now }
-    requires even { r ≤ length vertices.now }
-    requires inside { (j : ℕ) → j < r → get_or vertices.now j 0 < r * v }
-    ensures { result ≡ sum r (λ j. value_in (bytes_from file.now (values_from r)) (get_or vertices.now j 0)) }
+// The sum of the values of as many vertices as there are parts.
+#[tactic(auto, unfolding(counting::specs::Below::sum))]
+fn value_sum(tables: Tables, vertices: &[usize]) -> usize
+    requires even { tables.header.r ≤ length vertices.now }
+    requires inside { (j : ℕ) → j < tables.header.r → get_or vertices.now j 0 < tables.header.r * tables.header.v }
+    ensures { result ≡ sum tables.entry.header.r (λ j. value_in (bytes_from tables.entry.file.now (values_from tables.entry.header.r)) (get_or vertices.now j 0)) }
 {
-    let at = values_at(r);
+    let Tables { file, header } = tables;
+    let at = values_at(header);
     let s = value(file, at, vertices[0]) + value(file, at, vertices[1]);
-    if FEWEST_PARTS < r {
+    if FEWEST_PARTS < header.r {
         s + value(file, at, vertices[2])
     } else {
         s
@@ -45,13 +39,11 @@ fn value_sum(file: &[u8], r: usize, v: usize, vertices: &[usize]) -> usize
 }
 
 // The landing vertex of a code.
-pub fn landing(file: &[u8], r: usize, v: usize, code: &[u8]) -> usize
-    requires tabled { Tabled r v file.now }
-    requires short { length code.now ≤ most_bytes }
-    ensures { ((n : ℕ) → result ≡ landing_of HD (headed n r v) file.now code.now) × (result < r * v) }
+#[tactic(auto, using(crate::proofs::StandingLaws::vertex_in_lem, crate::proofs::LeadLaws::landing_from))]
+pub fn landing(tables: Tables, code: Code) -> usize
+    ensures { (result ≡ landing_of HD tables.entry.header tables.entry.file.now code.entry.bytes.now) × (result < tables.entry.header.r * tables.entry.header.v) }
 {
-    let mut vertices = [0usize; MOST_PARTS];
-    name_vertices(file, r, v, code, &mut vertices);
-    let s = value_sum(file, r, v, &vertices);
-    vertices[s % r]
+    let vertices = name_vertices(tables, code);
+    let s = value_sum(tables, &vertices);
+    vertices[s % tables.header.r]
 }
