@@ -1,4 +1,4 @@
 pub mod RefusalSteps
 pub mod MarkSteps
-pub mod TableSteps
 pub mod KeySteps
+pub mod TableSteps

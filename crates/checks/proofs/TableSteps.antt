@@ -1,25 +1,21 @@
--- The values, the spare bits, the rank entries and the total: what was read tells what the tests find, and the answer. Assumes nothing.
-use Rattle.std.specs.Prelude.{◌≡◌, ◌≢◌, true, false, ◌||◌, List, ℕ, ◌+◌, ◌-◌, ◌*◌, ◌≤◌, ◌<◌}
-use Rattle.std.proofs.Math.Path.{sym, ap}
-use Rattle.std.proofs.Common.{◌∙◌}
-use Rattle.std.proofs.Math.Bool.{not}
-use Rattle.std.proofs.Math.Nat.{zero-add}
-use native.Mathlib.Omega.{arith}
-use borrow.Author.Tests.{lt-ltb, le-ltb, eq-eqb, ne_eqb}
+-- The values, the spare bits, the rank entries and the total: the answer by what was found. Assumes nothing.
+use Rattle.std.specs.Prelude.{◌≡◌, ◌≢◌, not, true, false, ◌||◌, List, ℕ, ◌+◌, ◌*◌, Result, Option, Some, None, Ok}
+use Rattle.std.specs.List.{range_with_len, find}
+use Rattle.std.proofs.Common.{sym, ap, ◌∙◌, arith, eq-eqb, ne_eqb, zero-add}
 use Rattle.counting.proofs.TestLaws.{or_second, or_none}
-use Rattle.counting.specs.Below.{bit, count, any, lowest}
+use Rattle.counting.specs.Below.{bit, count, any}
 use Rattle.counting.proofs.BelowLaws.{sum_none, sum_split}
-use Rattle.counting.proofs.SearchLaws.{any_has, any_none, lowest_is, lowest_only, lowest-found, lowest_missed}
-use Rattle.graph.specs.Assignment.{assigned, assigned_below, block_size, blocks, rank_entry}
-use Rattle.directory.specs.declared.Opening.{Opening}
-use Rattle.directory.specs.declared.Opening.TheVariants.{Opened, Refused}
-use Rattle.directory.specs.Sizes.{Header, headed, value_bytes}
+use Rattle.graph.specs.Assignment.{assigned, assigned_below, block_size, rank_entry}
+use Rattle.directory.specs.declared.Refused.{Refused}
+use Rattle.directory.specs.declared.Reason.TheVariants.{WrongValue, WrongRank}
+use Rattle.directory.specs.Sizes.{Header, vertex_count, rank_entries}
 use Rattle.directory.specs.Kind.{HD}
 use Rattle.directory.specs.Values.{value_in, rank_in, value_over, spare_set, rank_wrong, total_wrong, table_refusals}
 use Rattle.directory.specs.File.{weights_at, values_at, table_in}
-use Rattle.directory.specs.Opening.{opened_unless}
+use Rattle.directory.specs.Refusals.{refused, ok_unless}
 use Rattle.records.specs.Standing.{bytes_from, values_from}
-use Rattle.checks.proofs.RefusalSteps.{opened-at-end, row_given, row_passed}
+use Rattle.counting.proofs.RangeLaws.{found_lowest, missed_any, missed_lowest}
+use Rattle.checks.proofs.RefusalSteps.{ok_at_end, row_given, row_passed}
 
 -- ---- rank entries, of any values
 
@@ -37,63 +33,58 @@ module _ (r : ℕ) (value : ℕ → ℕ) where
   unfolding assigned_below
   below_from_none m = simp zero-add
 
-module _ (n r v : ℕ) (f : List ℕ) where
-  abbrev h : Header
-  h = headed n r v
-
+module _ (h : Header) (f : List ℕ) where
   abbrev T : ℕ → ℕ
   T = table_in HD h f
 
-  -- the value of place x, where it stands
-  abbrev value : ℕ → ℕ
-  value = value_in (bytes_from f (values_from r))
+  -- the assigned values are counted where they stand
+  pub counted_there : (at k from c : ℕ) → at ≡ values_from h.r → c ≡ count k (λ i. assigned h.r (value_in (bytes_from f at) (from + i))) → c ≡ count k (λ i. assigned h.r (value_in T (from + i)))
+  unfolding table_in values_at weights_at
+  counted_there at k from c i e = e ∙ ap (λ a. count k (λ j. assigned h.r (value_in (bytes_from f a) (from + j)))) i
 
-  -- ---- the tests
+  pub rank_is_wrong : (b : ℕ) → rank_in h T b ≢ rank_entry h.r (value_in T) b → rank_wrong h T b ≡ true
+  unfolding rank_wrong
+  rank_is_wrong b d = ap not (ne_eqb _ _ d)
 
-  pub first_over : (x : ℕ) → x ≤ r * v → ((i : ℕ) → i < x → value i ≤ r) → (x < r * v → r < value x) → x ≡ lowest (r * v) (value_over h T)
-  unfolding value_over table_in values_at weights_at
-  first_over x m before here = lowest_only (record { none_before = λ i l. le-ltb r (value i) (before i l); most = m; passes = λ l. lt-ltb r (value x) (here l) })
+  pub rank_is_right : (b : ℕ) → rank_in h T b ≡ rank_entry h.r (value_in T) b → rank_wrong h T b ≡ false
+  unfolding rank_wrong
+  rank_is_right b e = ap not (eq-eqb _ _ e)
 
-  pub spare_found : (x : ℕ) → r * v ≤ x → x < 4 * value_bytes h → value x ≢ 0 → true ≡ spare_set h T
-  unfolding spare_set table_in values_at weights_at
-  spare_found x l m d = let e : r * v + (x - r * v) ≡ x = omega arith in sym (any_has _ _ (x - r * v) (omega arith) (rw e (ap not (ne_eqb (value x) 0 d))))
+  -- ---- the answer
 
-  pub spare_none : ((i : ℕ) → i < 4 * value_bytes h → r * v ≤ i → value i ≡ 0) → false ≡ spare_set h T
-  unfolding spare_set table_in values_at weights_at
-  spare_none zero = sym (any_none _ _ (λ i l. ap not (eq-eqb _ 0 (zero (r * v + i) (omega arith) (omega arith)))))
+  abbrev answer : Result Unit Refused
+  answer = ok_unless tt (table_refusals h T)
 
-  pub first_wrong : (b : ℕ) → b ≤ blocks (r * v) → ((i : ℕ) → i < b → rank_in h T i ≡ rank_entry r value i) → (b < blocks (r * v) → rank_in h T b ≢ rank_entry r value b) → b ≡ lowest (blocks (r * v)) (rank_wrong h T)
-  unfolding rank_wrong table_in values_at weights_at
-  first_wrong b m before here = lowest_only (record { none_before = λ i l. ap not (eq-eqb _ _ (before i l)); most = m; passes = λ l. ap not (ne_eqb _ _ (here l)) })
+  abbrev over_found : Option ℕ
+  over_found = find (value_over h T) (range_with_len 0 (vertex_count h))
 
-  -- ---- the answer: x is the lowest value over r, b the lowest wrong entry, c the number of assigned vertices
+  abbrev wrong_found : Option ℕ
+  wrong_found = find (rank_wrong h T) (range_with_len 0 (rank_entries h))
 
-  abbrev answer : Opening
-  answer = opened_unless h (table_refusals h T)
+  pub value_refused : {x : ℕ} → Some x ≡ over_found → refused WrongValue x ≡ answer
+  unfolding table_refusals
+  value_refused e = let w = found_lowest (value_over h T) _ e in ap (λ x. refused WrongValue x) w.1 ∙ row_given tt _ _ (rw w.0)
 
-  module _ (x : ℕ) (low : x ≡ lowest (r * v) (value_over h T)) where
-    pub value_refused : x < r * v → Refused 12 x ≡ answer
+  module _ (none_over : None ≡ over_found) where
+    pub spare_refused : true ≡ spare_set h T → refused WrongValue (vertex_count h) ≡ answer
     unfolding table_refusals
-    value_refused l = ap (Refused 12) low ∙ row_given h _ _ (rw (lowest-found _ _ _ low l))
+    spare_refused t = ap (λ x. refused WrongValue x) (missed_lowest (value_over h T) _ none_over) ∙ row_given tt _ _ (or_second (any (vertex_count h) (value_over h T)) _ (sym t))
 
-    module _ (none : r * v ≤ x) where
-      pub spare_refused : true ≡ spare_set h T → Refused 12 (r * v) ≡ answer
+    module _ (spare : false ≡ spare_set h T) where
+      values_right : any (vertex_count h) (value_over h T) || spare_set h T ≡ false
+      values_right = or_none (missed_any (value_over h T) _ none_over) (sym spare)
+
+      pub rank_refused : {b : ℕ} → Some b ≡ wrong_found → refused WrongRank b ≡ answer
       unfolding table_refusals
-      spare_refused t = ap (Refused 12) (omega (arith, (lowest_is (r * v) (value_over h T)).most)) ∙ row_given h _ _ (or_second (any (r * v) (value_over h T)) _ (sym t))
+      rank_refused e = let w = found_lowest (rank_wrong h T) _ e in ap (λ b. refused WrongRank b) w.1 ∙ row_passed tt _ _ values_right (row_given tt _ _ (rw w.0))
 
-      module _ (spare : false ≡ spare_set h T) (b : ℕ) (lowb : b ≡ lowest (blocks (r * v)) (rank_wrong h T)) where
-        values-right : any (r * v) (value_over h T) || spare_set h T ≡ false
-        values-right = or_none (lowest_missed _ _ _ low none) (sym spare)
+      module _ (none_wrong : None ≡ wrong_found) (c : ℕ) (e : c ≡ assigned_below h.r (value_in T) (vertex_count h)) where
+        pub total_refused : c ≢ h.n → refused WrongRank (rank_entries h) ≡ answer
+        unfolding table_refusals total_wrong
+        total_refused d =
+            ap (λ b. refused WrongRank b) (missed_lowest (rank_wrong h T) _ none_wrong)
+            ∙ row_passed tt _ _ values_right (row_given tt _ _ (or_second (any (rank_entries h) (rank_wrong h T)) _ (rw (← e) (ap not (ne_eqb c h.n d)))))
 
-        pub rank_refused : b < blocks (r * v) → Refused 13 b ≡ answer
-        unfolding table_refusals
-        rank_refused l = ap (Refused 13) lowb ∙ row_passed h _ _ values-right (row_given h _ _ (rw (lowest-found _ _ _ lowb l)))
-
-        module _ (right : blocks (r * v) ≤ b) (c : ℕ) (e : c ≡ assigned_below r value (r * v)) where
-          pub total_refused : c ≢ n → Refused 13 (blocks (r * v)) ≡ answer
-          unfolding table_refusals total_wrong table_in values_at weights_at
-          total_refused d = ap (Refused 13) (omega (arith, (lowest_is (blocks (r * v)) (rank_wrong h T)).most)) ∙ row_passed h _ _ values-right (row_given h _ _ (or_second (any (blocks (r * v)) (rank_wrong h T)) _ (rw (← e) (ap not (ne_eqb c n d)))))
-
-          pub table-opened : c ≡ n → Opened n r v ≡ answer
-          unfolding table_refusals total_wrong table_in values_at weights_at
-          table-opened d = row_passed h _ _ values-right (row_passed h _ _ (or_none (lowest_missed _ _ _ lowb right) (rw (← e) (ap not (eq-eqb c n d)))) (opened-at-end h))
+        pub table_passed : c ≡ h.n → Ok tt ≡ answer
+        unfolding table_refusals total_wrong
+        table_passed d = row_passed tt _ _ values_right (row_passed tt _ _ (or_none (missed_any (rank_wrong h T) _ none_wrong) (rw (← e) (ap not (eq-eqb c h.n d)))) (ok_at_end tt))

@@ -1,106 +1,79 @@
 // The KY records: each length and filling, and whether each stored code leads to its line.
-ghost use Rattle.std.specs.Prelude.{◌≡◌, not, ℕ, ◌+◌, ◌≤◌, ◌<◌, eqb, length};
-ghost use Rattle.counting.specs.Below.{any, lowest};
-ghost use Rattle.directory.specs.Sizes.{headed};
+ghost use Rattle.std.specs.Prelude.{◌≡◌, not, ℕ, ◌<◌, eqb};
+ghost use Rattle.std.specs.List.{range_with_len, find, list_any};
 ghost use Rattle.directory.specs.Kind.{HD};
-ghost use Rattle.directory.specs.Bytes.{byte_at};
-ghost use Rattle.directory.specs.Whole.{Framed, Key};
-ghost use Rattle.directory.specs.Opening.{key_wrong, astray, key_refusals, opened_unless};
-ghost use Rattle.records.specs.Standing.{Keyed};
+ghost use Rattle.directory.specs.Whole.{Key};
+ghost use Rattle.directory.specs.Opening.{key_wrong, astray, key_refusals};
+ghost use Rattle.directory.specs.Refusals.{ok_unless};
 
-use directory::{Lead, Opening, STRAY_CODE, WRONG_KEY};
+use directory::{Lead, Reason, Refused};
 use records::codes::key_length;
 use records::lead;
 use records::offsets::{POSITIONS, code_at};
+use records::standing::{Code, Directory};
 
-// Whether one of the k bytes from an offset on is not zero.
-fn filling_set(file: &[u8], at: usize, k: usize) -> bool
-    requires { at + k ≤ length file.now }
-    ensures { result ≡ any k (λ i. not (eqb (byte_at file.now (at + i)) 0)) }
+// Whether one of the bytes of the filling is not zero.
+fn filling_set(filling: &[u8]) -> bool
+    ensures { result ≡ list_any (λ b. not (eqb b 0)) filling.now }
 {
-    let mut i = 0;
-    while i < k {
-        if file[at + i] != 0 {
-            return true;
-        }
-        i += 1;
-    }
-    false
+    filling.iter().any(|b| *b != 0)
 }
 
 // Whether the KY record of line l has a length of 0 or over 32, or filling that is not zero.
-fn key_wrong(file: &[u8], r: usize, v: usize, l: usize) -> bool
-    requires { Keyed r v l file.now }
-    ensures { (n : ℕ) → result ≡ key_wrong HD (headed n r v) file.now l }
+// The test of the length is that of reader::sizes::wrong_length, which stands above this crate and whose edit holds it there.
+#[tactic(auto, unfolding(directory::specs::Opening::key_wrong, directory::specs::Codes::wrong_length))]
+fn key_wrong(directory: Directory, l: usize) -> bool
+    requires { l < directory.header.n }
+    ensures { result ≡ key_wrong HD directory.entry.header directory.entry.file.now l }
 {
-    let size = key_length(file, r, v, l);
-    if size == 0 {
-        return true;
-    }
-    if POSITIONS < size {
-        return true;
-    }
-    filling_set(file, code_at(r, v, l) + size, POSITIONS - size)
+    let size = key_length(directory.key(l));
+    let after = code_at(directory.header, l) + size;
+    size == 0 || POSITIONS < size || filling_set(&directory.file[after..after + (POSITIONS - size)])
 }
 
-// The lowest line whose KY record is wrong, and n where none is.
-fn wrong_key(file: &[u8], n: usize, r: usize, v: usize) -> usize
-    requires { Framed HD (headed n r v) file.now }
-    ensures { result ≡ lowest n (key_wrong HD (headed n r v) file.now) }
+// The lowest line whose KY record is wrong.
+fn wrong_key(directory: Directory) -> Option<usize>
+    ensures { result ≡ find (key_wrong HD directory.entry.header directory.entry.file.now) (range_with_len 0 directory.entry.header.n) }
 {
-    let mut l = 0;
-    while l < n {
-        if key_wrong(file, r, v, l) {
-            return l;
-        }
-        l += 1;
-    }
-    l
+    (0..directory.header.n).find(|l| key_wrong(directory, *l))
 }
 
 // Whether the code stored at line l leads elsewhere.
-fn strays(file: &[u8], n: usize, r: usize, v: usize, l: usize) -> bool
-    requires framed { Framed HD (headed n r v) file.now }
-    requires line { l < n }
-    requires key { Key HD (headed n r v) file.now l }
-    ensures { result ≡ astray HD (headed n r v) file.now l }
+#[tactic(auto, using(records::proofs::StandingLaws::code_from_lem), unfolding(directory::specs::Opening::astray, directory::specs::File::stored_code))]
+fn strays(directory: Directory, l: usize) -> bool
+    requires line { l < directory.header.n }
+    requires key { Key HD directory.header directory.file.now l }
+    ensures { result ≡ astray HD directory.entry.header directory.entry.file.now l }
 {
-    let from = code_at(r, v, l);
-    let to = from + key_length(file, r, v, l);
-    match lead(file, n, r, v, &file[from..to]) {
+    let Directory { file, header } = directory;
+    let from = code_at(header, l);
+    let to = from + key_length(directory.key(l));
+    let code = Code {
+        bytes: &file[from..to],
+    };
+    match lead(directory.tables(), code) {
         Lead::ToLine(k) => k != l,
         _ => true,
     }
 }
 
-// The lowest line whose code leads elsewhere, and n where each leads to its own.
-fn stray_code(file: &[u8], n: usize, r: usize, v: usize) -> usize
-    requires framed { Framed HD (headed n r v) file.now }
-    requires keys { (l : ℕ) → l < n → Key HD (headed n r v) file.now l }
-    ensures { result ≡ lowest n (astray HD (headed n r v) file.now) }
+// The lowest line whose code leads elsewhere.
+fn stray_code(directory: Directory) -> Option<usize>
+    requires { (l : ℕ) → l < directory.header.n → Key HD directory.header directory.file.now l }
+    ensures { result ≡ find (astray HD directory.entry.header directory.entry.file.now) (range_with_len 0 directory.entry.header.n) }
 {
-    let mut l = 0;
-    while l < n {
-        if strays(file, n, r, v, l) {
-            return l;
-        }
-        l += 1;
-    }
-    l
+    (0..directory.header.n).find(|l| strays(directory, *l))
 }
 
 // The first wrong KY record or stray code, if there is one.
-pub fn keys(file: &[u8], n: usize, r: usize, v: usize) -> Opening
-    requires { Framed HD (headed n r v) file.now }
-    ensures { result ≡ opened_unless (headed n r v) (key_refusals HD (headed n r v) file.now) }
+pub fn keys(directory: Directory) -> Result<(), Refused>
+    ensures { result ≡ ok_unless tt (key_refusals HD directory.entry.header directory.entry.file.now) }
 {
-    let wrong = wrong_key(file, n, r, v);
-    if wrong < n {
-        return Opening::Refused(WRONG_KEY, wrong);
+    if let Some(wrong) = wrong_key(directory) {
+        return Err(Reason::WrongKey.at(wrong));
     }
-    let stray = stray_code(file, n, r, v);
-    if stray < n {
-        return Opening::Refused(STRAY_CODE, stray);
+    match stray_code(directory) {
+        Some(stray) => Err(Reason::StrayCode.at(stray)),
+        None => Ok(()),
     }
-    Opening::Opened(n as u16, r as u8, v as u16)
 }

@@ -1,49 +1,55 @@
 // The marks after the first, in file order.
-ghost use Rattle.std.specs.Prelude.{◌≡◌};
-ghost use Rattle.counting.specs.Below.{lowest};
-ghost use Rattle.directory.specs.Sizes.{headed};
+ghost use Rattle.std.specs.Prelude.{◌≡◌, [], ◌∷◌, ◌+◌, ◌<◌, length};
+ghost use Rattle.std.specs.List.{range_with_len, find};
 ghost use Rattle.directory.specs.Kind.{HD};
-ghost use Rattle.directory.specs.Whole.{Framed};
-ghost use Rattle.directory.specs.Opening.{key_unmarked, mark_refusals, opened_unless};
+ghost use Rattle.directory.specs.Opening.{wrong_mark, key_unmarked, mark_refusals};
+ghost use Rattle.directory.specs.Refusals.{ok_unless};
 
-use directory::{Opening, WRONG_MARK};
-use records::numbers::marked;
+use directory::{Reason, Refused};
+use records::numbers::{GV, KY, RK, WT, marked};
 use records::offsets::{HEADER, key_at, ranks_at, values_at};
+use records::standing::Directory;
 
-// The lowest line whose KY record has another mark, and n where none has.
-fn unmarked_key(file: &[u8], n: usize, r: usize, v: usize) -> usize
-    requires { Framed HD (headed n r v) file.now }
-    ensures { result ≡ lowest n (key_unmarked HD (headed n r v) file.now) }
+// Whether a mark stands at an offset, or the refusal of a wrong one.
+#[tactic(auto, unfolding(directory::specs::Refusals::first, directory::specs::Opening::wrong_mark))]
+fn mark(directory: Directory, at: usize, letters: (u8, u8)) -> Result<(), Refused>
+    requires { at + 1 < length directory.file.now }
+    ensures { result ≡ ok_unless tt (wrong_mark HD directory.entry.header directory.entry.file.now at (letters.0, letters.1) ∷ []) }
 {
-    let mut l = 0;
-    while l < n {
-        if !marked(file, key_at(r, v, l), b'K', b'Y') {
-            return l;
-        }
-        l += 1;
+    if marked(directory.file, at, letters) {
+        Ok(())
+    } else {
+        Err(Reason::WrongMark.at(at))
     }
-    l
+}
+
+// Whether the KY record of line l has another mark.
+#[tactic(auto, using(records::proofs::FramedLaws::framed_keyed, records::proofs::StandingLaws::key_from_lem), unfolding(directory::specs::Opening::key_unmarked))]
+fn key_unmarked(directory: Directory, l: usize) -> bool
+    requires { l < directory.header.n }
+    ensures { result ≡ key_unmarked HD directory.entry.header directory.entry.file.now l }
+{
+    !marked(directory.file, key_at(directory.header, l), KY)
+}
+
+// The lowest line whose KY record has another mark.
+fn unmarked_key(directory: Directory) -> Option<usize>
+    ensures { result ≡ find (key_unmarked HD directory.entry.header directory.entry.file.now) (range_with_len 0 directory.entry.header.n) }
+{
+    (0..directory.header.n).find(|l| key_unmarked(directory, *l))
 }
 
 // The first wrong mark, if there is one.
-pub fn marks(file: &[u8], n: usize, r: usize, v: usize) -> Opening
-    requires { Framed HD (headed n r v) file.now }
-    ensures { result ≡ opened_unless (headed n r v) (mark_refusals HD (headed n r v) file.now) }
+#[tactic(auto, using(records::proofs::FramedLaws::framed_tabled))]
+pub fn marks(directory: Directory) -> Result<(), Refused>
+    ensures { result ≡ ok_unless tt (mark_refusals HD directory.entry.header directory.entry.file.now) }
 {
-    if !marked(file, HEADER, b'W', b'T') {
-        return Opening::Refused(WRONG_MARK, HEADER);
+    let header = directory.header;
+    mark(directory, HEADER, WT)?;
+    mark(directory, values_at(header), GV)?;
+    mark(directory, ranks_at(header), RK)?;
+    match unmarked_key(directory) {
+        Some(l) => Err(Reason::WrongMark.at(key_at(header, l))),
+        None => Ok(()),
     }
-    let values = values_at(r);
-    if !marked(file, values, b'G', b'V') {
-        return Opening::Refused(WRONG_MARK, values);
-    }
-    let ranks = ranks_at(r, v);
-    if !marked(file, ranks, b'R', b'K') {
-        return Opening::Refused(WRONG_MARK, ranks);
-    }
-    let l = unmarked_key(file, n, r, v);
-    if l < n {
-        return Opening::Refused(WRONG_MARK, key_at(r, v, l));
-    }
-    Opening::Opened(n as u16, r as u8, v as u16)
 }

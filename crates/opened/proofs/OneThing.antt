@@ -1,14 +1,14 @@
 -- The opened directory passed around as one thing, for readers: what follows from the contracts of `hold`, `find`, `shown`, `numbers` and `find_in`, about the definitions that they cite. Assumes nothing.
-use Rattle.std.specs.Prelude.{◌≡◌, refl, ◌≢◌, ◌↔◌, List, ℕ}
+use Rattle.std.specs.Prelude.{◌≡◌, refl, ◌≢◌, ◌↔◌, List, ℕ, Ok}
 use Rattle.std.proofs.Common.{sym, ◌∙◌}
 use Rattle.std.specs.Borrow.{Bor}
-use Rattle.directory.specs.declared.Opening.TheVariants as opening
-use Rattle.directory.specs.declared.Found.{Found}
+use Rattle.directory.specs.declared.Reason.{Reason}
+use Rattle.directory.specs.Sizes.{Header, headed}
+use Rattle.directory.specs.Refusals.{refused}
 use Rattle.directory.specs.Showing.{IsPart}
-use Rattle.directory.specs.Answers.{found_numbers}
+use Rattle.directory.specs.Answers.{Found, found_numbers}
 use Rattle.directory.specs.Calls.{open_of, lookup_of, lookup_numbers_of, show_part_of}
 use Rattle.directory.proofs.Demands.{looking_up_is_decided, showing_is_decided}
-use Rattle.opened.specs.declared.numbering.Numbers.{Numbers}
 use Rattle.opened.specs.declared.Opened.{Opened}
 use Rattle.opened.specs.Held.{numbers_of, held}
 use Rattle.opened.proofs.HeldLaws.{numbers-opened, numbers_refused, arity_0, opened-numbers}
@@ -28,24 +28,24 @@ module _ (file : Bor (List ℕ)) (d : Opened) (h : d ≡ held file) where
   it_shows_the_files_part line part shown = rw (← the_slice_is_the_files) shown
 
   -- where the file opens with n, r and v, these are its numbers
-  pub its_numbers_are_those_of_opening : (n r v : ℕ) → open_of file.now ≡ opening.Opened n r v → (d.n ≡ n) × (d.r ≡ r) × (d.v ≡ v)
-  its_numbers_are_those_of_opening n r v o = rw (h, ← numbers-opened file.now n r v o) (refl, refl, refl)
+  pub its_numbers_are_those_of_opening : (n r v : ℕ) → open_of file.now ≡ Ok (headed n r v) → d.header ≡ headed n r v
+  its_numbers_are_those_of_opening n r v o = rw (h, ← numbers-opened file.now (headed n r v) o)
 
   -- where it does not, they are 0
-  pub its_numbers_are_0_where_opening_refuses : (k p : ℕ) → open_of file.now ≡ opening.Refused k p → (d.n ≡ 0) × (d.r ≡ 0) × (d.v ≡ 0)
-  its_numbers_are_0_where_opening_refuses k p o = rw (h, ← numbers_refused file.now k p o) (refl, refl, refl)
+  pub its_numbers_are_0_where_opening_refuses : (k : Reason) (p : ℕ) → open_of file.now ≡ refused k p → d.header ≡ headed 0 0 0
+  its_numbers_are_0_where_opening_refuses k p o = rw (h, ← numbers_refused file.now k p o)
 
   -- so its r tells: 0 exactly if the file does not open
-  pub r_is_0_exactly_if_it_does_not_open : (d.r ≡ 0) ↔ ((k : ℕ) × (p : ℕ) × (open_of file.now ≡ opening.Refused k p))
+  pub r_is_0_exactly_if_it_does_not_open : (d.header.r ≡ 0) ↔ ((k : Reason) × (p : ℕ) × (open_of file.now ≡ refused k p))
   r_is_0_exactly_if_it_does_not_open = rw h (arity_0 file.now)
 
   -- and with any other r the file opens, with its numbers
-  pub with_any_other_r_it_opens : d.r ≢ 0 → open_of file.now ≡ opening.Opened d.n d.r d.v
+  pub with_any_other_r_it_opens : d.header.r ≢ 0 → open_of file.now ≡ Ok d.header
   with_any_other_r_it_opens = rw h (opened-numbers file.now)
 
 -- ---- each call decides what it gives back: any two results that its contract allows are equal
 
-pub the_numbers_are_decided : (f : List ℕ) {a b : Numbers} → a ≡ numbers_of f → b ≡ numbers_of f → a ≡ b
+pub the_numbers_are_decided : (f : List ℕ) {a b : Header} → a ≡ numbers_of f → b ≡ numbers_of f → a ≡ b
 the_numbers_are_decided f a b = a ∙ sym b
 
 pub holding_is_decided : (file : Bor (List ℕ)) {a b : Opened} → a ≡ held file → b ≡ held file → a ≡ b

@@ -1,9 +1,7 @@
 -- An answer that is the definition's has the paper's numbers. Assumes nothing.
 use Rattle.std.specs.Prelude.{◌≡◌, List, ℕ}
 use Rattle.std.proofs.Common.{ap, ◌∙◌}
-use Rattle.directory.specs.declared.Opening.{Opening}
-use Rattle.directory.specs.declared.Found.{Found}
-use Rattle.directory.specs.Answers.{opening_numbers, found_numbers}
+use Rattle.directory.specs.Answers.{Opening, Found, opening_numbers, found_numbers}
 use Rattle.directory.specs.Calls.{header_of, open_of, lookup_of, header_numbers_of, open_numbers_of, lookup_numbers_of}
 use Rattle.directory.proofs.NumberLaws.{header_paper, open_paper, lookup_paper}
 

@@ -3,6 +3,7 @@
 
 mod sizes; // sizes.rt: the sizes, and the length of a file
 mod heading; // heading.rt: the header
+mod framing; // framing.rt: a file with its header
 mod looking; // looking.rt: looking a code up
 mod showing; // showing.rt: showing the code of a line
 mod opening; // opening.rt: all checks of a file

@@ -1,4 +1,5 @@
 // What a refusal's number and place mean.
+// By numbers and no Reason: README names these calls so, their clauses hold for every number, and 20, 21 and 24 have no Reason yet (directory.Witnesses.groups_are, meanings_are).
 ghost use Rattle.std.specs.Prelude.{◌≡◌};
 ghost use Rattle.directory.specs.Answers.{group_of, meaning_of};
 

@@ -1,39 +1,28 @@
 // Showing the code of a line, as a part of the file.
 ghost use Rattle.std.specs.Prelude.{◌≡◌};
-ghost use Rattle.directory.specs.Sizes.{headed};
 ghost use Rattle.directory.specs.Kind.{HD};
-ghost use Rattle.directory.specs.Showing.{IsPart, empty_part, key_part};
-ghost use Rattle.directory.specs.Whole.{Framed};
+ghost use Rattle.directory.specs.Showing.{IsPart, key_part};
 ghost use Rattle.directory.specs.Calls.{show_part_of};
 
-use crate::heading::header;
-use directory::{Opening, Part};
+use crate::framing::framed;
+use crate::sizes::wrong_length;
+use directory::Part;
 use records::codes::key_length;
-use records::offsets::{POSITIONS, code_at};
+use records::offsets::code_at;
+use records::standing::Directory;
 
-// The empty part.
-fn nothing() -> Part
-    ensures { result ≡ empty_part }
+// The code of a line of a file whose header and length are right; the empty part where there is none.
+fn key_part(directory: Directory, line: usize) -> Part
+    ensures { let d = directory.entry in result ≡ key_part HD d.header d.file.now line }
 {
-    Part { start: 0, size: 0 }
-}
-
-// The code of a line of a file whose header and length are right.
-fn key_part(file: &[u8], n: usize, r: usize, v: usize, line: usize) -> Part
-    requires { Framed HD (headed n r v) file.now }
-    ensures { result ≡ key_part HD (headed n r v) file.now line }
-{
-    if n <= line {
-        return nothing();
+    if directory.header.n <= line {
+        return Part::EMPTY;
     }
-    let size = key_length(file, r, v, line);
-    if size == 0 {
-        return nothing();
+    let size = key_length(directory.key(line));
+    if wrong_length(size) {
+        return Part::EMPTY;
     }
-    if POSITIONS < size {
-        return nothing();
-    }
-    let start = code_at(r, v, line);
+    let start = code_at(directory.header, line);
     Part { start, size }
 }
 
@@ -41,9 +30,9 @@ fn key_part(file: &[u8], n: usize, r: usize, v: usize, line: usize) -> Part
 pub fn part(file: &[u8], line: usize) -> Part
     ensures { result ≡ show_part_of file.now line }
 {
-    match header(file) {
-        Opening::Refused(_, _) => nothing(),
-        Opening::Opened(n, r, v) => key_part(file, n as usize, r as usize, v as usize, line),
+    match framed(file) {
+        Ok(directory) => key_part(directory, line),
+        Err(_) => Part::EMPTY,
     }
 }
 
@@ -51,8 +40,6 @@ pub fn part(file: &[u8], line: usize) -> Part
 pub fn show(file: &[u8], line: usize) -> &[u8]
     ensures { IsPart result file.entry (show_part_of file.now line) }
 {
-    let shown = part(file, line);
-    let start = shown.start;
-    let end = start + shown.size;
-    &file[start..end]
+    let Part { start, size } = part(file, line);
+    &file[start..start + size]
 }

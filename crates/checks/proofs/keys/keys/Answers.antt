@@ -1,19 +1,25 @@
 -- `checks::keys::keys`: the lowest wrong record is refused, then the lowest stray code. Assumes nothing.
-use Rattle.checks.proofs.KeySteps.{key_refused, keys_right, stray_refused, keys_opened}
+use Rattle.std.proofs.Common.{ap, ◌∙◌, Err}
+use Rattle.counting.proofs.SearchLaws.{any_false}
+use Rattle.directory.specs.declared.Reason.TheVariants.{WrongKey, StrayCode}
+use Rattle.directory.specs.Opening.{key_refusals}
+use Rattle.directory.specs.Kind.{HD}
+use Rattle.directory.proofs.WholeLaws.{key}
+use Rattle.counting.proofs.RangeLaws.{missed_any}
+use Rattle.checks.proofs.RefusalSteps.{ok_at_end, found_refused, missed_passed}
 use Rattle.checks.proofs.keys.keys.Goals as goal
 
-pub returns-then-wrong-n : goal.returns-then-wrong-n
-returns-then-wrong-n c = let a = c.args in key_refused a.n a.r a.v a.file.now c.wrong_key-wrong.result c.wrong_key-wrong.ensures c.if-wrong-n.true
+pub returns-in-Some : goal.returns-in-Some
+unfolding key_refusals
+returns-in-Some c = ap Err c.at.ensures ∙ found_refused tt _ _ WrongKey (λ l. l) _ c.in-Some.ensures
 
-pub stray_code-stray-requires-clause-keys : goal.stray_code-stray-requires-clause-keys
-stray_code-stray-requires-clause-keys c = let a = c.args in keys_right a.n a.r a.v a.file.now c.wrong_key-wrong.result c.wrong_key-wrong.ensures c.if-wrong-n.false
+pub stray_code-requires : goal.stray_code-requires
+stray_code-requires c i m = let d = c.args.directory in key HD d.header d.file.now i (any_false _ _ (missed_any _ _ c.in_default.ensures) i m)
 
-pub returns-then-stray-n : goal.returns-then-stray-n
-returns-then-stray-n c =
-    let a = c.args in
-    stray_refused a.n a.r a.v a.file.now c.wrong_key-wrong.result c.wrong_key-wrong.ensures c.if-wrong-n.false c.stray_code-stray.result c.stray_code-stray.ensures c.if-stray-n.true
+pub returns-in-Some-stray_code : goal.returns-in-Some-stray_code
+unfolding key_refusals
+returns-in-Some-stray_code c = ap Err c.at-in-Some-stray_code.ensures ∙ missed_passed tt _ _ WrongKey (λ l. l) _ c.in_default.ensures (found_refused tt _ _ StrayCode (λ l. l) _ c.in-Some-stray_code.ensures)
 
-pub returns : goal.returns
-returns c =
-    let a = c.args in
-    keys_opened a.n a.r a.v a.file.now c.wrong_key-wrong.result c.wrong_key-wrong.ensures c.if-wrong-n.false c.stray_code-stray.result c.stray_code-stray.ensures c.if-stray-n.false
+pub returns-in-None : goal.returns-in-None
+unfolding key_refusals
+returns-in-None c = missed_passed tt _ _ WrongKey (λ l. l) _ c.in_default.ensures (missed_passed tt _ _ StrayCode (λ l. l) _ c.in-None.ensures (ok_at_end tt))

@@ -1,57 +1,48 @@
--- `checks::marks::marks`: the records before KY stand within the file, and the first mark that is not found decides. Assumes nothing.
-use Rattle.std.proofs.Common.{ap, arith, false, not, sym, ◌∙◌, ◌≡◌}
-use Rattle.directory.specs.Bytes.{WT, GV, RK, marked}
-use Rattle.directory.specs.File.{header_length}
-use Rattle.records.proofs.FramedLaws.{framed_tabled}
-use Rattle.checks.proofs.MarkSteps.{weights_unmarked, values_unmarked, ranks_unmarked, keys_unmarked, all_marked}
+-- `checks::marks::marks`: the first mark that is not found decides. Assumes nothing.
+use Rattle.std.proofs.Common.{arith, ap, refl, ◌∙◌, Err}
+use Rattle.std.proofs.lemmas.Result.{err_from_is_err_and}
+use Rattle.directory.specs.declared.Reason.TheVariants.{WrongMark}
+use Rattle.directory.specs.Kind.{HD}
+use Rattle.directory.specs.File.{key_at}
+use Rattle.directory.specs.Opening.{key_unmarked}
+use Rattle.directory.specs.Refusals.{refused}
+use Rattle.counting.proofs.RangeLaws.{found_lowest}
+use Rattle.records.proofs.StandingLaws.{key_from_lem}
+use Rattle.checks.proofs.RefusalSteps.{ok_at_end, row_refused, row_ok, found_refused, missed_passed}
+use Rattle.checks.proofs.MarkSteps.{mark_rows}
 use Rattle.checks.proofs.marks.marks.Goals as goal
-use Rattle.checks.proofs.marks.marks.Goals.{Else-not-marked, Else-not-marked-2, Else-not-marked-3}
 
-pub marked-requires : goal.marked-requires
-marked-requires c = let a = c.args in omega (arith, (framed_tabled a.n a.r a.v a.file.now c.requires).long)
+pub returns-in_err-mark : goal.returns-in_err-mark
+returns-in_err-mark c =
+    let d = c.args.directory in
+    let p = err_from_is_err_and c.from_residual.result c.from_residual.ensures.1 in
+    rw (mark_rows d.header d.file.now refl refl, p.1, p.2) (row_refused tt _ _ c.in_err-mark.ensures)
 
-pub marked-requires-2 : goal.marked-requires-2
-marked-requires-2 c = let a = c.args in omega (arith, (framed_tabled a.n a.r a.v a.file.now c.requires).long)
+pub returns-in_err-mark-2 : goal.returns-in_err-mark-2
+returns-in_err-mark-2 c =
+    let d = c.args.directory in
+    let p = err_from_is_err_and c.from_residual-in_err-mark-2.result c.from_residual-in_err-mark-2.ensures.1 in
+    rw (mark_rows d.header d.file.now c.values_at.ensures refl, p.1, p.2) (row_ok tt _ _ c.in_ok-mark.ensures (row_refused tt _ _ c.in_err-mark-2.ensures))
 
-pub marked-requires-3 : goal.marked-requires-3
-marked-requires-3 c = let a = c.args in omega (arith, (framed_tabled a.n a.r a.v a.file.now c.requires).long)
+pub returns-in_err-mark-3 : goal.returns-in_err-mark-3
+returns-in_err-mark-3 c =
+    let d = c.args.directory in
+    let p = err_from_is_err_and c.from_residual-in_err-mark-3.result c.from_residual-in_err-mark-3.ensures.1 in
+    rw (mark_rows d.header d.file.now c.values_at.ensures c.ranks_at.ensures, p.1, p.2) (row_ok tt _ _ c.in_ok-mark.ensures (row_ok tt _ _ c.in_ok-mark-2.ensures (row_refused tt _ _ c.in_err-mark-3.ensures)))
 
--- ---- the marks that are found
+pub key_at-requires-clause-few : goal.key_at-requires-clause-few
+key_at-requires-clause-few c = let d = c.args.directory in omega (arith, (found_lowest (key_unmarked HD d.header d.file.now) d.header.n c.in-Some.ensures).2, d.framed.sizes.few)
 
-weights : (c : Else-not-marked) → not (marked c.args.file.now header_length WT) ≡ false
-weights c = ap not (sym c.marked.ensures ∙ c.if-not-marked.false)
+pub returns-in-Some : goal.returns-in-Some
+returns-in-Some c =
+    let d = c.args.directory in
+    rw (mark_rows d.header d.file.now c.values_at.ensures c.ranks_at.ensures)
+    (ap Err c.at.ensures
+    ∙ ap (λ at. refused WrongMark at) (c.key_at.ensures ∙ key_from_lem d.header c.in-Some.l)
+    ∙ row_ok tt _ _ c.in_ok-mark.ensures (row_ok tt _ _ c.in_ok-mark-2.ensures (row_ok tt _ _ c.in_ok-mark-3.ensures (found_refused tt _ _ WrongMark (key_at HD d.header) _ c.in-Some.ensures))))
 
-values : (c : Else-not-marked-2) → not (marked c.args.file.now c.values_at-values.result GV) ≡ false
-values c = ap not (sym c.marked-2.ensures ∙ c.if-not-marked-2.false)
-
-ranks : (c : Else-not-marked-3) → not (marked c.args.file.now c.ranks_at-ranks.result RK) ≡ false
-ranks c = ap not (sym c.marked-3.ensures ∙ c.if-not-marked-3.false)
-
--- ---- the answers
-
-pub returns-then-not-marked : goal.returns-then-not-marked
-returns-then-not-marked c = let a = c.args in weights_unmarked a.n a.r a.v a.file.now (ap not (sym c.marked.ensures ∙ c.if-not-marked.true))
-
-pub returns-then-not-marked-2 : goal.returns-then-not-marked-2
-returns-then-not-marked-2 c =
-    let a = c.args in
-    let at = goal.at.returns-then-not-marked-2 c in
-    values_unmarked a.n a.r a.v a.file.now (weights at.Else-not-marked) c.values_at-values.result c.values_at-values.ensures (ap not (sym c.marked-2.ensures ∙ c.if-not-marked-2.true))
-
-pub returns-then-not-marked-3 : goal.returns-then-not-marked-3
-returns-then-not-marked-3 c =
-    let a = c.args in
-    let at = goal.at.returns-then-not-marked-3 c in
-    ranks_unmarked a.n a.r a.v a.file.now (weights at.Else-not-marked) c.values_at-values.result c.values_at-values.ensures (values at.Else-not-marked-2) c.ranks_at-ranks.result c.ranks_at-ranks.ensures (ap not (sym c.marked-3.ensures ∙ c.if-not-marked-3.true))
-
-pub returns-then-l-n : goal.returns-then-l-n
-returns-then-l-n c =
-    let a = c.args in
-    let at = goal.at.returns-then-l-n c in
-    keys_unmarked a.n a.r a.v a.file.now (weights at.Else-not-marked) c.values_at-values.result c.values_at-values.ensures (values at.Else-not-marked-2) c.ranks_at-ranks.result c.ranks_at-ranks.ensures (ranks at.Else-not-marked-3) c.unmarked_key-l.result c.unmarked_key-l.ensures c.if-l-n.true c.key_at.result c.key_at.ensures
-
-pub returns : goal.returns
-returns c =
-    let a = c.args in
-    let at = goal.at.returns c in
-    all_marked a.n a.r a.v a.file.now (weights at.Else-not-marked) c.values_at-values.result c.values_at-values.ensures (values at.Else-not-marked-2) c.ranks_at-ranks.result c.ranks_at-ranks.ensures (ranks at.Else-not-marked-3) c.unmarked_key-l.result c.unmarked_key-l.ensures c.if-l-n.false
+pub returns-in-None : goal.returns-in-None
+returns-in-None c =
+    let d = c.args.directory in
+    rw (mark_rows d.header d.file.now c.values_at.ensures c.ranks_at.ensures)
+    (row_ok tt _ _ c.in_ok-mark.ensures (row_ok tt _ _ c.in_ok-mark-2.ensures (row_ok tt _ _ c.in_ok-mark-3.ensures (missed_passed tt _ _ WrongMark (key_at HD d.header) _ c.in-None.ensures (ok_at_end tt)))))

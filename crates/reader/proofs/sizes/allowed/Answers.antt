@@ -5,7 +5,7 @@ use Rattle.reader.proofs.sizes.allowed.Goals as goal
 use Rattle.reader.proofs.sizes.allowed.Goals.{Joined-codes_allowed, then-codes_allowed, else-codes_allowed}
 
 -- what the first two calls come to
-both : (c : Joined-codes_allowed) → let a = c.args in c.if-codes_allowed.value ≡ codes_allowed a.n && arity_allowed a.r
+both : (c : Joined-codes_allowed) → let a = c.args in c.if-codes_allowed.value ≡ codes_allowed a.header.n && arity_allowed a.header.r
 both c =
     elim c.if-codes_allowed.branch [
       | then-codes_allowed w ↦ rw (sym c.codes_allowed.ensures ∙ w.if-codes_allowed.true) (w.value-is ∙ w.arity_allowed.ensures)
