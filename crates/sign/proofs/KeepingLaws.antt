@@ -1,24 +1,19 @@
 -- The lists keep the last reports: what is kept at a line is what was put there, other lines stay, and cleared lists were never heard. Assumes nothing.
-use Rattle.std.specs.Prelude.{◌≡◌, refl, ◌≢◌, Bool, true, false, ◌&&◌, ℕ, ◌/◌, ◌<◌, ℤ, pos, length, get_or}
-use Rattle.std.proofs.Common.{arith, eqb-true, eq-eqb, ltb-true, lt-ltb}
+use Rattle.std.specs.Prelude.{◌≡◌, refl, ◌≢◌, true, ℕ, ◌/◌, ◌<◌, ℤ, pos, length, get_or}
+use Rattle.std.proofs.Common.{arith, eqb-true, eq-eqb, lt-ltb}
 use Rattle.counting.proofs.TestLaws.{and_left, and_right, and_both}
-use Rattle.sign.specs.declared.Last.TheVariants.{NeverHeard, Heard}
 use Rattle.sign.specs.Levels.{in_range, twos}
 use Rattle.sign.proofs.LevelLaws.{level_back, range_bits}
 use Rattle.sign.specs.Places.{place_bytes, place_at, number_at, filled}
 use Rattle.sign.proofs.PlaceLaws.{length-with, byte_stays, number_same, number-other, length-filled, number-filled}
-use Rattle.sign.specs.Rules.{last_of}
-use Rattle.sign.specs.Keeping.{Lists, long_enough, fits, Room, last_at, has_place, heard_at, keep, cleared}
+use Rattle.sign.specs.Rules.{heard, never_heard, last_of}
+use Rattle.sign.specs.Keeping.{Lists, long_enough, fits, Room, last_at, heard_at, keep, cleared}
 
 -- ---- what stored numbers mean
 
-pub last-heard : (level : ℤ) (time : ℕ) → in_range level ≡ true → last_of level time ≡ Heard level time
+pub last-heard : (level : ℤ) (time : ℕ) → in_range level ≡ true → last_of level time ≡ heard level time
 unfolding last_of
 last-heard level time e = rw e
-
-pub last_never : (level : ℤ) (time : ℕ) → in_range level ≡ false → last_of level time ≡ NeverHeard
-unfolding last_of
-last_never level time e = rw e
 
 -- ---- lists that fit
 
@@ -34,31 +29,16 @@ fits_long n S h = (
 pub fits_room : (n : ℕ) (S : Lists) (line : ℕ) → fits n S ≡ true → line < n → Room line S.levels S.times
 fits_room n S line h l = let w = fits_long n S h in (omega (arith, w.0), omega (arith, w.1))
 
--- ---- lists that have the place of a line
+-- ---- where both lists have the place of a line, what was heard last is what stands there
 
 module _ (S : Lists) (line : ℕ) where
-  abbrev there : Bool
-  there = has_place line (length S.levels) && has_place line (length S.times)
-
-  pub places_room : there ≡ true → Room line S.levels S.times
-  places_room h =
-      let l = ltb-true line (length S.levels / place_bytes) (and_left (has_place line (length S.levels)) (has_place line (length S.times)) h) in
-      let t = ltb-true line (length S.times / place_bytes) (and_right (has_place line (length S.levels)) (has_place line (length S.times)) h) in
-      (omega (arith, l), omega (arith, t))
-
-  pub heard-there : there ≡ true → heard_at S line ≡ last_at S line
+  pub heard_room : Room line S.levels S.times → heard_at S line ≡ last_at S line
   unfolding heard_at
-  heard-there h = rw h
-
-  pub heard_nowhere : there ≡ false → heard_at S line ≡ NeverHeard
-  unfolding heard_at
-  heard_nowhere h = rw h
+  heard_room room = rw (lt-ltb line (length S.levels / place_bytes) (omega (arith, room.0)), lt-ltb line (length S.times / place_bytes) (omega (arith, room.1)))
 
   -- lists that fit have every line's
   pub heard-fits : (n : ℕ) → fits n S ≡ true → line < n → heard_at S line ≡ last_at S line
-  heard-fits n h l =
-      let w = fits_long n S h in
-      heard-there (and_both (lt-ltb line (length S.levels / place_bytes) (omega (arith, w.0))) (lt-ltb line (length S.times / place_bytes) (omega (arith, w.1))))
+  heard-fits n h l = heard_room (fits_room n S line h l)
 
 -- ---- what is kept
 
@@ -67,7 +47,7 @@ module _ (S : Lists) (line : ℕ) (level : ℤ) (time : ℕ) where
   unfolding fits keep
   kept-fits n = rw (length-with S.levels line (twos level), length-with S.times line time)
 
-  pub kept_same : Room line S.levels S.times → in_range level ≡ true → last_at (keep S line level time) line ≡ Heard level time
+  pub kept_same : Room line S.levels S.times → in_range level ≡ true → last_at (keep S line level time) line ≡ heard level time
   unfolding last_at keep
   kept_same room e =
       rw (number_same S.levels line (twos level) room.0, number_same S.times line time room.1, level_back level (range_bits level e)) (last-heard level time e)
@@ -99,7 +79,7 @@ module _ (S : Lists) (line : ℕ) (level : ℤ) (time : ℕ) where
 
 -- ---- cleared lists
 
-never : (time : ℕ) → last_of (pos 30000) time ≡ NeverHeard
+never : (time : ℕ) → last_of (pos 30000) time ≡ never_heard
 unfolding last_of in_range
 never time = refl
 
@@ -107,6 +87,6 @@ pub cleared-fits : (n : ℕ) → fits n (cleared n) ≡ true
 unfolding fits cleared
 cleared-fits n = and_both (eq-eqb _ _ (length-filled n 30000)) (eq-eqb _ _ (length-filled n 0))
 
-pub cleared_never : (n line : ℕ) → line < n → last_at (cleared n) line ≡ NeverHeard
+pub cleared_never : (n line : ℕ) → line < n → last_at (cleared n) line ≡ never_heard
 unfolding last_at cleared
 cleared_never n line h = rw (number-filled n 30000 line h) (never (number_at (filled n 0) line))

@@ -1,13 +1,12 @@
 pub mod LevelLaws
 pub mod PlaceLaws
 pub mod KeepingLaws
-pub mod AFewAnswers
-pub mod RuleSteps
 pub mod CallSteps
-pub mod TraceLaws
+pub mod RuleLaws
 pub mod HistoryLaws
+pub mod TraceLaws
 pub mod RefusingLaws
 pub mod AnyListsLaws
-pub mod RuleLaws
 pub mod PromiseLaws
 pub mod Promises
+pub mod AFewAnswers

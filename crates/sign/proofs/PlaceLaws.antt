@@ -1,6 +1,8 @@
 -- Places of a list: what is read there is what was put there, and other places stay. Assumes nothing.
-use Rattle.std.specs.Prelude.{◌≡◌, refl, ◌≢◌, List, ℕ, zero, suc, ◌+◌, ◌/◌, ◌≤◌, ◌<◌, length, get_or, set}
-use Rattle.std.proofs.Common.{◌∙◌, arith}
+use Rattle.std.specs.Prelude.{◌≡◌, refl, ◌≢◌, List, [], ◌∷◌, ◌++◌, ℕ, zero, suc, ◌+◌, ◌/◌, ◌%◌, ◌≤◌, ◌<◌, length, get_or, set, take, drop, ◌^◌}
+use Rattle.std.specs.Int.{w32, from_le_bytes, to_le_bytes}
+use Rattle.std.specs.Simd.{first_chunks}
+use Rattle.std.proofs.Common.{ap, sym, lit<, ◌∙◌, arith, get_or-take, get_or-drop}
 use Rattle.std.proofs.Math.ListN.{length-set}
 use Rattle.std.proofs.Math.Seq.{get_or-set_same, get_or-set_other}
 use Rattle.sign.specs.Places.{place_bytes, place_at, joined, byte0, byte1, byte2, byte3, number_at, with_number, filled}
@@ -82,6 +84,16 @@ number-other list line x other d =
       byte_stays list line x (place_at other + 3) (λ e. d (omega arith)),
     )
 
+-- past the first place the lines count from there
+number_later : (list : List ℕ) (line : ℕ) → number_at (drop place_bytes list) line ≡ number_at list (suc line)
+unfolding number_at
+number_later list line =
+    let e0 : place_bytes + place_at line ≡ place_at (suc line) = omega arith in
+    let e1 : place_bytes + (place_at line + 1) ≡ place_at (suc line) + 1 = omega arith in
+    let e2 : place_bytes + (place_at line + 2) ≡ place_at (suc line) + 2 = omega arith in
+    let e3 : place_bytes + (place_at line + 3) ≡ place_at (suc line) + 3 = omega arith in
+    simp (get_or-drop, e0, e1, e2, e3)
+
 -- ---- places that all hold one number
 
 pub length-filled : (n x : ℕ) → length (filled n x) ≡ place_at n
@@ -93,9 +105,29 @@ pub number-filled : (n x line : ℕ) → line < n → number_at (filled n x) lin
 unfolding filled number_at
 number-filled zero x line h = absurd (omega arith)
 number-filled (suc n) x zero h = bytes_joined x
-number-filled (suc n) x (suc line) h =
-    let e0 : place_at (suc line) ≡ suc (suc (suc (suc (place_at line)))) = omega arith in
-    let e1 : place_at (suc line) + 1 ≡ suc (suc (suc (suc (place_at line + 1)))) = omega arith in
-    let e2 : place_at (suc line) + 2 ≡ suc (suc (suc (suc (place_at line + 2)))) = omega arith in
-    let e3 : place_at (suc line) + 3 ≡ suc (suc (suc (suc (place_at line + 3)))) = omega arith in
-    rw (e1, e2, e3, e0) (number-filled n x line (omega arith))
+number-filled (suc n) x (suc line) h = sym (number_later (filled (suc n) x) line) ∙ number-filled n x line (omega arith)
+
+-- ---- what the code does: it reads the chunk of four bytes at a line, and writes four bytes over a part of the list
+
+pub number_read : (n line : ℕ) (list : List ℕ) → line < n → from_le_bytes w32 (get_or (first_chunks place_bytes n list) line []) ≡ number_at list line
+unfolding number_at
+number_read zero line list h = absurd (omega arith)
+number_read (suc n) zero list h = omega (arith, get_or-take place_bytes list 0 0 (lit< tt), get_or-take place_bytes list 1 0 (lit< tt), get_or-take place_bytes list 2 0 (lit< tt), get_or-take place_bytes list 3 0 (lit< tt))
+number_read (suc n) (suc line) list h = number_read n line (drop place_bytes list) (omega arith) ∙ number_later list line
+
+part_put : (at : ℕ) (list : List ℕ) (a b c d : ℕ) → at + place_bytes ≤ length list → take at list ++ (a ∷ b ∷ c ∷ d ∷ drop place_bytes (drop at list)) ≡ set (set (set (set list at a) (at + 1) b) (at + 2) c) (at + 3) d
+part_put zero (k ∷ l ∷ m ∷ n ∷ list) a b c d h = refl
+part_put zero list a b c d h = absurd (omega arith)
+part_put (suc at) [] a b c d h = absurd (omega arith)
+part_put (suc at) (k ∷ list) a b c d h =
+    let e1 : suc at + 1 ≡ suc (at + 1) = omega arith in
+    let e2 : suc at + 2 ≡ suc (at + 2) = omega arith in
+    let e3 : suc at + 3 ≡ suc (at + 3) = omega arith in
+    rw (e1, e2, e3) (ap (λ (l : List ℕ). k ∷ l) (part_put at list a b c d (omega arith)))
+
+pub number_put : (list : List ℕ) (line x k : ℕ) → x < 2 ^ 32 → k ≡ place_bytes → place_at line + place_bytes ≤ length list → take (place_at line) list ++ (to_le_bytes w32 x ++ drop k (drop (place_at line) list)) ≡ with_number list line x
+unfolding with_number
+number_put list line x k f e h =
+    let b2 : x / 65536 % 256 ≡ byte2 x = omega arith in
+    let b3 : x / 16777216 % 256 ≡ byte3 x = omega arith in
+    rw (e, b2, b3) (part_put (place_at line) list (byte0 x) (byte1 x) (byte2 x) (byte3 x) h)

@@ -1,7 +1,6 @@
 -- The last accepted report of a code, by the calls that were made and what they gave back. Assumes nothing.
-use Rattle.std.specs.Prelude.{◌≡◌, Bool, false, List, [], ◌∷◌, ◌++◌, ℕ}
+use Rattle.std.specs.Prelude.{◌≡◌, Bool, false, List, [], ◌∷◌, ◌++◌, ℕ, Some, None, Ok, Err}
 use Rattle.counting.specs.Lists.{same}
-use Rattle.sign.specs.declared.Reported.TheVariants.{Accepted, Unknown, Refused}
 use Rattle.sign.specs.Rules.{Report}
 use Rattle.sign.specs.Trace.{Call, Reply}
 use Rattle.sign.specs.Trace.Call.{report, ask}
@@ -13,9 +12,9 @@ Entry = Call × Reply
 
 -- whether it is a report of this code that was accepted
 unfoldable pub accepts : List ℕ → Entry → Bool
-accepts code (report q, reported (Accepted line)) = same q.code code
-accepts code (report q, reported Unknown) = false
-accepts code (report q, reported (Refused number place)) = false
+accepts code (report q, reported (Ok (Some line))) = same q.code code
+accepts code (report q, reported (Ok None)) = false
+accepts code (report q, reported (Err why)) = false
 accepts code (report q, asked a) = false
 accepts code (ask q, r) = false
 
@@ -29,6 +28,6 @@ pub record LastAccepted (code : List ℕ) (q : Report) (entries : List Entry) : 
   pub before : List Entry
   pub line : ℕ
   pub since : List Entry
-  pub made : entries ≡ before ++ (report q, reported (Accepted line)) ∷ since
+  pub made : entries ≡ before ++ (report q, reported (Ok (Some line))) ∷ since
   pub its_code : q.code ≡ code
   pub none_since : NoneAccepted code since

@@ -1,12 +1,8 @@
 -- The last reports as the lists keep them: the levels and the times, one place a line. Assumes nothing.
-use Rattle.std.specs.Prelude.{Bool, ◌&&◌, cond, List, ℕ, ◌+◌, ◌/◌, ◌≤◌, eqb, ltb, ℤ, length}
-use Rattle.sign.specs.declared.Last.{Last}
-use Rattle.sign.specs.declared.Last.TheVariants.{NeverHeard}
-use Rattle.sign.specs.declared.Reported.{Reported}
-use Rattle.sign.specs.declared.Reported.TheVariants.{Accepted, Unknown, Refused}
+use Rattle.std.specs.Prelude.{Bool, ◌&&◌, cond, List, ℕ, ◌+◌, ◌/◌, ◌≤◌, eqb, ltb, ℤ, length, Some, None, Ok, Err}
 use Rattle.sign.specs.Levels.{twos, from_twos}
 use Rattle.sign.specs.Places.{place_bytes, place_at, number_at, with_number, filled}
-use Rattle.sign.specs.Rules.{last_of}
+use Rattle.sign.specs.Rules.{Last, never_heard, Reported, last_of}
 
 -- the two lists of bytes that are lent
 pub record Lists : Type 0 where
@@ -37,7 +33,7 @@ abbrev pub has_place : ℕ → ℕ → Bool
 has_place line bytes = ltb line (bytes / place_bytes)
 
 unfoldable pub heard_at : Lists → ℕ → Last
-heard_at S line = cond (has_place line (length S.levels) && has_place line (length S.times)) (last_at S line) NeverHeard
+heard_at S line = cond (has_place line (length S.levels) && has_place line (length S.times)) (last_at S line) never_heard
 
 -- the lists with a report put at a line
 unfoldable pub keep : Lists → ℕ → ℤ → ℕ → Lists
@@ -45,9 +41,9 @@ keep S line level time = lists (with_number S.levels line (twos level)) (with_nu
 
 -- an accepted report is put at its line, and no other changes a byte
 unfoldable pub kept : Reported → ℤ → ℕ → Lists → Lists
-kept (Accepted line) level time S = keep S line level time
-kept Unknown level time S = S
-kept (Refused number place) level time S = S
+kept (Ok (Some line)) level time S = keep S line level time
+kept (Ok None) level time S = S
+kept (Err why) level time S = S
 
 -- lists of n lines that were never heard: 30,000 as every level and 0 as every time
 unfoldable pub cleared : ℕ → Lists

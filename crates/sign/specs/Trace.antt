@@ -1,13 +1,7 @@
 -- Calls one after the other: on the sign, and on a plain map from code to last accepted report. Assumes nothing.
-use Rattle.std.specs.Prelude.{Bool, true, false, cond, List, [], ◌∷◌, ℕ}
+use Rattle.std.specs.Prelude.{Bool, true, false, cond, List, [], ◌∷◌, ℕ, Some, None, Ok, Err}
 use Rattle.counting.specs.Lists.{same}
-use Rattle.sign.specs.declared.Last.{Last}
-use Rattle.sign.specs.declared.Last.TheVariants.{NeverHeard, Heard}
-use Rattle.sign.specs.declared.Reported.{Reported}
-use Rattle.sign.specs.declared.Reported.TheVariants as told
-use Rattle.sign.specs.declared.Answer.{Answer}
-use Rattle.sign.specs.declared.Answer.TheVariants as answer
-use Rattle.sign.specs.Rules.{Report, Question, told, answered, limit_allowed}
+use Rattle.sign.specs.Rules.{Report, Question, Last, heard, never_heard, Reported, Asked, told, answered, limit_allowed}
 use Rattle.sign.specs.Keeping.{Lists}
 use Rattle.sign.specs.Calls.{entered, on_line, report_of, after_report, ask_of}
 
@@ -18,7 +12,7 @@ pub data Call : Type 0 where
 
 pub data Reply : Type 0 where
   reported : Reported → Reply
-  asked : Answer → Reply
+  asked : Asked → Reply
 
 -- something that can be called: what it gives back, and what it is afterwards
 pub record Machine : Type 1 where
@@ -57,23 +51,23 @@ abbrev pub Map : Type 0
 Map = List ℕ → Last
 
 unfoldable pub nothing : Map
-nothing code = NeverHeard
+nothing code = never_heard
 
 unfoldable pub with : Map → Report → Map
-with M q code = cond (same q.code code) (Heard q.level q.time) (M code)
+with M q code = cond (same q.code code) (heard q.level q.time) (M code)
 
 unfoldable pub accepted : Reported → Bool
-accepted (told.Accepted line) = true
-accepted told.Unknown = false
-accepted (told.Refused number place) = false
+accepted (Ok (Some line)) = true
+accepted (Ok None) = false
+accepted (Err why) = false
 
 -- the directory says which codes are listed, and has its refusals; the rule of a line is the map's entry for the code
 module _ (f : List ℕ) where
   unfoldable pub map_report : Report → Map → Reported
-  map_report q M = on_line told.Refused told.Unknown (λ line. told (M q.code) line q.level q.time) (entered f q.code true true)
+  map_report q M = on_line (λ line. told (M q.code) line q.level q.time) (entered f q.code true true)
 
-  unfoldable pub map_ask : Question → Map → Answer
-  map_ask q M = on_line answer.Refused answer.Unknown (λ line. answered (M q.code) q.now q.limit) (entered f q.code (limit_allowed q.limit) true)
+  unfoldable pub map_ask : Question → Map → Asked
+  map_ask q M = on_line (λ line. answered (M q.code) q.now q.limit) (entered f q.code (limit_allowed q.limit) true)
 
   unfoldable pub map_reply : Map → Call → Reply
   map_reply M (report q) = reported (map_report q M)
