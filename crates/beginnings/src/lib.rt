@@ -3,20 +3,8 @@
 
 ghost use Rattle.std.specs.Prelude.{◌≡◌, take};
 
-pub fn first_bytes(bytes: &[u8], count: usize) -> &[u8]
-    ensures { result.now ≡ take count bytes.now }
+pub fn first<T>(items: &[T], count: usize) -> &[T]
+    ensures { result.now ≡ take count items.now }
 {
-    if count < bytes.len() {
-        return &bytes[..count];
-    }
-    bytes
-}
-
-pub fn first_numbers(numbers: &[u16], count: usize) -> &[u16]
-    ensures { result.now ≡ take count numbers.now }
-{
-    if count < numbers.len() {
-        return &numbers[..count];
-    }
-    numbers
+    items.get(..count).unwrap_or(items)
 }

@@ -1,26 +1,33 @@
-// Bytes stored one after the other in a buffer that the caller lends. Each function returns the place past what it wrote.
+// Bytes stored one after the other in a buffer that the caller lends.
 #![tactic(auto)]
 
-ghost use Rattle.std.specs.Prelude.{[], ◌∷◌, ◌+◌, ◌<◌, ◌≤◌, length};
-ghost use Rattle.counting.specs.Wrote.{Wrote};
+ghost use Rattle.std.specs.Prelude.{[], ◌∷◌, length};
+ghost use Rattle.storing.specs.Went.{RoomFor, Went};
 
-pub fn put_byte(buffer: &mut [u8], at: usize, b: u8) -> usize
-    requires { at < length buffer.old }
-    ensures { Wrote at (b ∷ []) buffer.old buffer.new result }
-{
-    buffer[at] = b;
-    at + 1
+// Where the next byte goes, in a buffer that the caller lends.
+#[derive(Drop)]
+pub struct Pen<'a> {
+    pub buffer: &'a mut [u8],
+    pub at: usize,
 }
 
-pub fn put_bytes(buffer: &mut [u8], at: usize, bytes: &[u8]) -> usize
-    requires { at + length bytes.now ≤ length buffer.old }
-    ensures { Wrote at bytes.now buffer.old buffer.new result }
-{
-    let mut to = at;
-    let mut i = 0;
-    while i < bytes.len() {
-        to = put_byte(buffer, to, bytes[i]);
-        i += 1;
+impl Pen<'_> {
+    // One byte.
+    pub fn byte(&mut self, b: u8)
+        requires { RoomFor 1 self.old }
+        ensures { Went (b ∷ []) self.old self.new }
+    {
+        self.buffer[self.at] = b;
+        self.at += 1;
     }
-    to
+
+    // Bytes, one after the other.
+    pub fn bytes(&mut self, bytes: &[u8])
+        requires { RoomFor (length bytes.now) self.old }
+        ensures { Went bytes.now self.old self.new }
+    {
+        let past = self.at + bytes.len();
+        self.buffer[self.at..past].copy_from_slice(bytes);
+        self.at = past;
+    }
 }
