@@ -6,14 +6,13 @@ use Rattle.graph.specs.Agree.{Agree}
 use Rattle.graph.proofs.AgreeLaws.{agree_number, agree_most, agree_values, agree_edge, agree_rank, agree_proper}
 use Rattle.removal.specs.Arrays.{graph_in, Held}
 use Rattle.peeling.specs.Arranging.{Arranged}
-use Rattle.directory.specs.Sizes.{headed, most_codes}
+use Rattle.directory.specs.Sizes.{most_codes}
 use Rattle.directory.specs.Codes.{code}
 use Rattle.directory.specs.Kind.{HD, vertex}
 use Rattle.directory.specs.Building.{lent, weight, code_of, graph}
 use Rattle.directory.proofs.GraphLaws.{graph_proper}
-use Rattle.directory.specs.Whole.{Sized}
+use Rattle.records.specs.Standing.{Room}
 use Rattle.lists.specs.Listed.{Named}
-use Rattle.builder.specs.Graphs.{graph_of}
 
 -- the places that the vertices of n codes take
 abbrev pub most_named : ℕ
@@ -23,21 +22,21 @@ pub named_most : (n r : ℕ) → n ≤ most_codes → r ≤ 3 → n * r ≤ most
 named_most n r l m = mul-le-mul l m
 
 module _ (run ends : List ℕ) (r v : ℕ) (weights buffer edges : List ℕ) (named : Named (length ends) r (λ k j. vertex HD v (λ i. get_or weights i 0) (code run ends k) j) edges) where
-  edges_agree : Agree (graph_of run ends r v weights buffer) (graph_in (length ends) r (r * v) edges)
+  edges_agree : Agree (graph HD (lent run ends r v weights buffer)) (graph_in (length ends) r (r * v) edges)
   unfolding graph weight code_of
   edges_agree = record { same_edges = refl; same_arity = refl; same_count = refl; same_vertices = λ k j l m. sym (named k j l m) }
 
-  pub edges_held : Sized (headed (length ends) r v) → length ends * r ≤ length edges → Held (length ends) r (r * v) edges
-  edges_held s long =
+  pub edges_held : Room r v → length ends ≤ most_codes → length ends * r ≤ length edges → Held (length ends) r (r * v) edges
+  edges_held s few long =
       record {
         proper = agree_proper edges_agree (graph_proper HD (lent run ends r v weights buffer) (omega (arith, s.two)) s.some);
         long = long;
-        few_edges = omega (arith, s.few);
+        few_edges = omega (arith, few);
         few_vertices = omega (arith, s.room);
         small_arity = omega (arith, s.three);
       }
 
-  pub arranged_list : {values rank keys : List ℕ} {left most : ℕ} → Arranged (graph_in (length ends) r (r * v) edges) values rank keys left most → Arranged (graph_of run ends r v weights buffer) values rank keys left most
+  pub arranged_list : {values rank keys : List ℕ} {left most : ℕ} → Arranged (graph_in (length ends) r (r * v) edges) values rank keys left most → Arranged (graph HD (lent run ends r v weights buffer)) values rank keys left most
   unfolding graph
   arranged_list a =
       record {

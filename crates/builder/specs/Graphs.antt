@@ -1,25 +1,24 @@
--- The graph of a code list in arrays: what is lent for it, and what the arrays hold in the end. Assumes nothing.
+-- What is lent with a buffer, the graph of a code list in arrays, and what the arrays hold in the end. Assumes nothing.
 use Rattle.std.specs.Prelude.{◌≡◌, List, ℕ, ◌*◌, ◌≤◌, length}
-use Rattle.graph.specs.Graph.{Graph}
 use Rattle.graph.specs.Peeling.{number_left}
 use Rattle.graph.specs.Assignment.{blocks}
 use Rattle.peeling.specs.Arranging.{Lined}
-use Rattle.directory.specs.Sizes.{headed}
 use Rattle.directory.specs.Kind.{HD}
 use Rattle.directory.specs.Building.{Lent, lent, graph}
-use Rattle.directory.specs.Whole.{Sized}
 use Rattle.directory.specs.Lending.{WithinLimits}
-use Rattle.lists.specs.Listed.{Listed}
+use Rattle.lists.specs.declared.edges.Checked.{Checked}
+use Rattle.builder.specs.declared.lending.Lent as declared
 
--- the graph of the list, whatever buffer is lent with it
-abbrev pub graph_of : List ℕ → List ℕ → ℕ → ℕ → List ℕ → List ℕ → Graph
-graph_of run ends r v weights buffer = graph HD (lent run ends r v weights buffer)
+-- what is lent, as the definitions have it
+abbrev pub lent_of : declared.Lent → List ℕ → Lent
+lent_of I buffer = lent I.list.run.now I.list.ends.now I.r I.v I.weights.now buffer
 
--- a list and weights within the limits, and arrays long enough for the values, the rank entries and the codes in the order of their lines
-pub record Arrangeable (r v : ℕ) (run ends weights values rank keys : List ℕ) : Type 0 where
-  pub sizes : Sized (headed (length ends) r v)
-  pub weighed : length weights ≡ HD.positions * r
-  pub codes : Listed run ends
+-- the same, once it is checked
+abbrev pub checked_with : Checked → List ℕ → Lent
+checked_with I buffer = lent I.codes.list.run.now I.codes.list.ends.now I.naming.r I.naming.v I.naming.weights.now buffer
+
+-- arrays long enough for the values, the rank entries and the codes in the order of their lines
+pub record Arrangeable (r v : ℕ) (ends values rank keys : List ℕ) : Type 0 where
   pub for_values : r * v ≤ length values
   pub for_rank : blocks (r * v) ≤ length rank
   pub for_keys : length ends ≤ length keys

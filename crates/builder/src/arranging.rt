@@ -1,9 +1,11 @@
 // The graph of the codes, peeled and assigned in arrays of its own.
 ghost use Rattle.std.specs.Prelude.{ℕ, List};
+ghost use Rattle.directory.specs.Building.{graph};
+ghost use Rattle.directory.specs.Kind.{HD};
 ghost use Rattle.peeling.specs.Arranging.{Arranged};
-ghost use Rattle.builder.specs.Graphs.{graph_of, Arrangeable};
+ghost use Rattle.builder.specs.Graphs.{checked_with, Arrangeable};
 
-use lists::edges::name_edges;
+use lists::edges::Checked;
 use peeling::arrange;
 use records::sizes::{MOST_CODES, MOST_VERTICES};
 use removal::Counts;
@@ -12,29 +14,26 @@ use removal::Counts;
 const MOST_NAMED: usize = 3_072;
 
 // How many codes are left over and how many waited at once at the most; where none is left over, the values, the rank entries and the codes in the order of their lines stand at the starts of their arrays.
+// The three arrays that are written stay parameters, as in `removal::remove_all`.
 pub(crate) fn arrange_codes(
-    run: &[u8],
-    ends: &[u16],
-    r: usize,
-    v: usize,
-    weights: &[u16],
+    checked: Checked,
     values: &mut [u8],
     rank: &mut [u16],
     keys: &mut [u16],
 ) -> Counts
-    requires { Arrangeable r v run.now ends.now weights.now values.old rank.old keys.old }
-    ensures { (buffer : List ℕ) → Arranged (graph_of run.now ends.now r v weights.now buffer) values.new rank.new keys.new result.left result.most }
+    requires { Arrangeable checked.naming.r checked.naming.v checked.codes.list.ends.now values.old rank.old keys.old }
+    ensures { (buffer : List ℕ) → Arranged (graph HD (checked_with checked.entry buffer)) values.new rank.new keys.new result.left result.most }
 {
     let mut edges = [0u16; MOST_NAMED];
     let mut degrees = [0u16; MOST_VERTICES];
     let mut sums = [0u32; MOST_VERTICES];
     // the removal list and, behind it, the waiting queue: 1,024 places, one for each code, since no code waits twice
     let mut order = [0u16; MOST_CODES];
-    name_edges(run, ends, r, v, weights, &mut edges);
+    checked.name_edges(&mut edges);
     arrange(
-        ends.len(),
-        r,
-        v,
+        checked.codes.list.len(),
+        checked.naming.r,
+        checked.naming.v,
         &edges,
         &mut degrees,
         &mut sums,

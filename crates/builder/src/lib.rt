@@ -10,11 +10,12 @@ ghost use Rattle.directory.specs.Building.{lent};
 ghost use Rattle.directory.specs.Answers.{built_numbers};
 ghost use Rattle.directory.specs.Calls.{build_of, buffer_after_of, build_numbers_of};
 
-use crate::deciding::build_within;
-use crate::lending::{Lending, refused_lent};
-use directory::Built;
+use crate::lending::Lent;
+use directory::Refused;
+use lists::ends::CodeList;
 
 // Builds the directory of a code list. On success the file stands at the start of the buffer, the bytes after it are unchanged, and the answer has the most codes that waited at once; on refusal no byte changes.
+// The parameters stay six, as README names the call and C passes them; inside they are one value.
 pub fn build(
     run: &[u8],
     ends: &[u16],
@@ -22,13 +23,17 @@ pub fn build(
     v: usize,
     weights: &[u16],
     buffer: &mut [u8],
-) -> Built
+) -> Result<usize, Refused>
     ensures answer { result ≡ build_of (lent run.now ends.now r v weights.now buffer.old) }
     ensures bytes { buffer.new ≡ buffer_after_of (lent run.now ends.now r v weights.now buffer.old) }
     ensures paper { built_numbers result ≡ build_numbers_of (lent run.now ends.now r v weights.now buffer.old) }
 {
-    match refused_lent(run, ends, r, v, weights, buffer) {
-        Lending::Refused(number, place) => Built::Refused(number, place),
-        Lending::Right => build_within(run, ends, r, v, weights, buffer),
-    }
+    let lent = Lent {
+        list: CodeList { run, ends },
+        r,
+        v,
+        weights,
+    };
+    lent.check(buffer)?;
+    lent.build_within(buffer)
 }

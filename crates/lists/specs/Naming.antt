@@ -1,13 +1,5 @@
--- The vertices of one code by the lent weights: what computing them needs, and what stands in the array afterwards. Assumes nothing.
-use Rattle.std.specs.Prelude.{◌≡◌, List, ℕ, ◌+◌, ◌*◌, ◌≤◌, ◌<◌, length, get_or}
-use Rattle.records.specs.Standing.{most_bytes, Room}
-
--- the vertices of a code can be written from `at` on
-pub record Writable (r v at : ℕ) (t weights edges : List ℕ) : Type 0 where
-  pub sizes : Room r v
-  pub weighed : length weights ≡ most_bytes * r
-  pub short : length t ≤ most_bytes
-  pub room : at + r ≤ length edges
+-- The vertices of one code by the lent weights, as they stand in the array afterwards. Assumes nothing.
+use Rattle.std.specs.Prelude.{◌≡◌, List, ℕ, ◌+◌, ◌<◌, get_or}
 
 -- the first r numbers from `at` on are f 0, f 1, .., and those before them are as they were
 pub record Noted (at r : ℕ) (f : ℕ → ℕ) (before after : List ℕ) : Type 0 where

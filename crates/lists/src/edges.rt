@@ -3,73 +3,69 @@ ghost use Rattle.std.specs.Prelude.{◌≡◌, ◌+◌, ◌*◌, ◌≤◌, ◌<
 ghost use Rattle.counting.specs.Widths.{two_bytes};
 ghost use Rattle.directory.specs.Codes.{code as code_of};
 ghost use Rattle.directory.specs.Kind.{HD, vertex as vertex_of};
-ghost use Rattle.records.specs.Standing.{most_bytes};
-ghost use Rattle.records.specs.Summing.{Weighed, Summed};
-ghost use Rattle.lists.specs.Listed.{Nameable, Named};
-ghost use Rattle.lists.specs.Naming.{Writable, Noted};
+ghost use Rattle.directory.specs.Sizes.{most_codes};
+ghost use Rattle.records.specs.Standing.{most_bytes, Room};
+ghost use Rattle.lists.specs.Listed.{Named};
+ghost use Rattle.lists.specs.Naming.{Noted};
 
-use crate::ends::code;
-use records::Sums;
-use records::adding::vertex;
+use crate::ends::Codes;
+use records::adding::{self, Weights};
 use records::offsets::POSITIONS;
-use records::sizes::FEWEST_PARTS;
+use records::standing::Code;
 
-// Weight i of part j.
-fn weight(weights: &[u16], j: usize, i: usize) -> u32
-    requires { (i < most_bytes) × (j < 3) × (most_bytes * (j + 1) ≤ length weights.now) }
-    ensures { (result ≡ get_or weights.now (most_bytes * j + i) 0) × (result < two_bytes) }
-{
-    weights[POSITIONS * j + i] as u32
+// By what a code gets its vertices: r parts of v vertices each, and 32 weights for each part.
+#[derive(Clone, Copy)]
+pub struct Naming<'a> {
+    pub r: usize,
+    pub v: usize,
+    pub weights: &'a [u16],
+    pub ghost sizes: { Room r v },
+    pub ghost weighed: { length weights.now ≡ most_bytes * r },
 }
 
-// The sums of a code.
-fn code_sums(weights: &[u16], r: usize, code: &[u8]) -> Sums
-    requires { Weighed r (most_bytes * r) (length weights.now) code.now }
-    ensures { Summed (λ i. get_or weights.now i 0) code.now r result }
-{
-    let mut first: u32 = 0;
-    let mut second: u32 = 0;
-    let mut third: u32 = 0;
-    let mut i = 0;
-    while i < code.len() {
-        let b = code[i] as u32;
-        first += b * weight(weights, 0, i);
-        second += b * weight(weights, 1, i);
-        if FEWEST_PARTS < r {
-            third += b * weight(weights, 2, i);
+impl Weights for Naming<'_> {
+    ghost count = { λ s. length s.weights.now };
+
+    ghost weight_at = { λ s i. get_or s.weights.now i 0 };
+
+    fn weight(&self, j: usize, i: usize) -> u32 {
+        u32::from(self.weights[POSITIONS * j + i])
+    }
+}
+
+impl Naming<'_> {
+    // Writes the r vertices of a code from `at` on.
+    fn name_vertices(self, code: Code, at: usize, edges: &mut [u16])
+        requires { at + self.r ≤ length edges.old }
+        ensures { Noted at self.entry.r (vertex_of HD self.entry.v (λ i. get_or self.entry.weights.now i 0) code.entry.bytes.now) edges.old edges.new }
+    {
+        let vertices = adding::name_vertices(&self, self.r, self.v, code);
+        for (j, vertex) in vertices[..self.r].iter().enumerate() {
+            edges[at + j] = *vertex as u16;
         }
-        i += 1;
-    }
-    Sums {
-        first,
-        second,
-        third,
     }
 }
 
-// Writes the r vertices of a code from `at` on.
-fn name_vertices(code: &[u8], r: usize, v: usize, weights: &[u16], at: usize, edges: &mut [u16])
-    requires { Writable r v at code.now weights.now edges.old }
-    ensures { Noted at r (vertex_of HD v (λ i. get_or weights.now i 0) code.now) edges.old edges.new }
-{
-    let sums = code_sums(weights, r, code);
-    edges[at] = vertex(sums.first, v, 0) as u16;
-    edges[at + 1] = vertex(sums.second, v, 1) as u16;
-    if FEWEST_PARTS < r {
-        edges[at + 2] = vertex(sums.third, v, 2) as u16;
-    }
+// A code list of at most 1,024 codes, with what gives them their vertices: the refusals 1 to 5 do not apply to it, but for a run that is longer than its codes.
+#[derive(Clone, Copy)]
+pub struct Checked<'a> {
+    pub codes: Codes<'a>,
+    pub naming: Naming<'a>,
+    pub ghost few: { length codes.list.ends.now ≤ most_codes },
 }
 
-// Writes the r vertices of each code, those of code k from k·r on.
-pub fn name_edges(run: &[u8], ends: &[u16], r: usize, v: usize, weights: &[u16], edges: &mut [u16])
-    requires { Nameable r v run.now ends.now weights.now edges.old }
-    ensures { Named (length ends.now) r (λ k j. vertex_of HD v (λ i. get_or weights.now i 0) (code_of run.now ends.now k) j) edges.new }
-{
-    let mut at = 0;
-    let mut k = 0;
-    while k < ends.len() {
-        name_vertices(code(run, ends, k), r, v, weights, at, edges);
-        at += r;
-        k += 1;
+impl Checked<'_> {
+    // Writes the r vertices of each code, those of code k from k·r on.
+    pub fn name_edges(self, edges: &mut [u16])
+        requires { length self.codes.list.ends.now * self.naming.r ≤ length edges.old }
+        ensures { Named (length self.entry.codes.list.ends.now) self.entry.naming.r (λ k j. vertex_of HD self.entry.naming.v (λ i. get_or self.entry.naming.weights.now i 0) (code_of self.entry.codes.list.run.now self.entry.codes.list.ends.now k) j) edges.new }
+    {
+        let list = self.codes.list;
+        for k in 0..list.len() {
+            let code = Code {
+                bytes: list.code(k),
+            };
+            self.naming.name_vertices(code, k * self.naming.r, edges);
+        }
     }
 }

@@ -13,38 +13,40 @@ use Rattle.directory.specs.File.{header_record, weight_record, key_record, file,
 use Rattle.directory.proofs.FileLaws.{file-size}
 use Rattle.records.specs.Standing.{key_from}
 use Rattle.records.proofs.StandingLaws.{length_from}
+use Rattle.lists.specs.Listed.{Listed}
 use Rattle.writer.specs.Ready.{file_in, Ready}
 
-module _ {r v : ℕ} {weights values rank run ends keys buffer : List ℕ} (ready : Ready r v weights values rank run ends keys buffer) where
+module _ {r v : ℕ} {values rank ends keys buffer : List ℕ} (ready : Ready r v values rank ends keys buffer) where
   abbrev h : Header
   h = headed (length ends) r v
 
-  abbrev weight : ℕ → ℕ
-  weight i = get_or weights i 0
-
-  abbrev value : ℕ → ℕ
-  value x = get_or values x 0
-
-  abbrev key : ℕ → List ℕ
-  key l = code run ends (get_or keys l 0)
-
-  short : (l : ℕ) → l < length ends → length (key l) ≤ HD.positions
-  short l m = let k = get_or keys l 0 in let c = ready.lines.codes k (ready.lines.is_code l (omega (arith, ready.for_keys))) in omega (arith, code-length HD.positions run ends k c, c.short)
-
   -- there is room up to where the KY record of one line more would stand
-  pub fits : key_from r v (length ends) ≤ length buffer
-  fits = omega (arith, ready.room, length_from (length ends) r v)
+  pub fits : key_from h h.n ≤ length buffer
+  fits = omega (arith, ready.room, length_from h)
 
-  -- the records, one after the other
-  abbrev pub records : List ℕ
-  records = header_record HD h ++ (weight_record HD h weight ++ ((value_record h value ++ rank_record h value) ++ each (length keys) (λ l. key_record HD h (key l))))
+  module _ (weights run : List ℕ) (listed : Listed run ends) where
+    abbrev weight : ℕ → ℕ
+    weight i = get_or weights i 0
 
-  records-file : records ≡ file_in r v weights values run ends keys
-  unfolding file table_records
-  records-file = rw ready.for_keys
+    abbrev value : ℕ → ℕ
+    value x = get_or values x 0
 
-  -- the file, and after it the bytes that stood there
-  pub filled : {after : List ℕ} {to : ℕ} → Wrote 0 records buffer after to → after ≡ file_in r v weights values run ends keys ++ drop (file_length HD h) buffer
-  filled w =
-      let size : length (file_in r v weights values run ends keys) ≡ file_length HD h = file-size HD h weight value key short in
-      wrote_whole (wrote_named records-file w) (omega (arith, ready.room)) ∙ ap (λ k. file_in r v weights values run ends keys ++ drop k buffer) size
+    abbrev key : ℕ → List ℕ
+    key l = code run ends (get_or keys l 0)
+
+    short : (l : ℕ) → l < length ends → length (key l) ≤ HD.positions
+    short l m = let k = get_or keys l 0 in let c = listed k (ready.is_code l (omega (arith, ready.for_keys))) in omega (arith, code-length HD.positions run ends k c, c.short)
+
+    -- the records, one after the other
+    abbrev pub records : List ℕ
+    records = header_record HD h ++ (weight_record HD h weight ++ ((value_record h value ++ rank_record h value) ++ each (length keys) (λ l. key_record HD h (key l))))
+
+    records-file : records ≡ file_in r v weights values run ends keys
+    unfolding file table_records
+    records-file = rw ready.for_keys
+
+    -- the file, and after it the bytes that stood there
+    pub filled : {after : List ℕ} {to : ℕ} → Wrote 0 records buffer after to → after ≡ file_in r v weights values run ends keys ++ drop (file_length HD h) buffer
+    filled w =
+        let size : length (file_in r v weights values run ends keys) ≡ file_length HD h = file-size HD h weight value key short in
+        wrote_whole (wrote_named records-file w) (omega (arith, ready.room)) ∙ ap (λ k. file_in r v weights values run ends keys ++ drop k buffer) size

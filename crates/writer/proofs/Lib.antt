@@ -1,4 +1,3 @@
 pub mod ValueSteps
-pub mod FrontSteps
-pub mod KeySteps
+pub mod StoredLaws
 pub mod FileSteps

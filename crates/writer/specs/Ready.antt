@@ -6,8 +6,6 @@ use Rattle.directory.specs.Sizes.{headed}
 use Rattle.directory.specs.Codes.{code}
 use Rattle.directory.specs.Kind.{HD}
 use Rattle.directory.specs.File.{file, file_length}
-use Rattle.directory.specs.Whole.{Sized}
-use Rattle.lists.specs.Listed.{Listed}
 
 -- the file with these weights, values and codes; code keys[l] of the list has line l
 abbrev pub file_in : ℕ → ℕ → List ℕ → List ℕ → List ℕ → List ℕ → List ℕ → List ℕ
@@ -17,19 +15,11 @@ file_in r v weights values run ends keys = file HD (headed (length ends) r v) (�
 abbrev pub Small : List ℕ → Type 0
 Small values = (x : ℕ) → x < length values → get_or values x 0 ≤ 3
 
--- each line has a code of the list, and each code of the list 1 to 32 bytes of the run
-pub record LineCodes (run ends keys : List ℕ) : Type 0 where
-  pub is_code : (l : ℕ) → l < length keys → get_or keys l 0 < length ends
-  pub codes : Listed run ends
-
--- the sizes are allowed, each array has the numbers that the file takes from it, and the buffer is long enough
-pub record Ready (r v : ℕ) (weights values rank run ends keys buffer : List ℕ) : Type 0 where
-  pub sizes : Sized (headed (length ends) r v)
-  pub weighed : length weights ≡ HD.positions * r
+-- each array has the numbers that the file takes from it, each line a code of the list, and the buffer is long enough
+pub record Ready (r v : ℕ) (values rank ends keys buffer : List ℕ) : Type 0 where
   pub for_values : length values ≡ r * v
-  pub small : Small values
   pub for_rank : length rank ≡ blocks (r * v)
   pub ranks : Holds (blocks (r * v)) (rank_entry r (λ x. get_or values x 0)) rank
   pub for_keys : length keys ≡ length ends
-  pub lines : LineCodes run ends keys
+  pub is_code : (l : ℕ) → l < length keys → get_or keys l 0 < length ends
   pub room : file_length HD (headed (length ends) r v) ≤ length buffer

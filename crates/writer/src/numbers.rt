@@ -1,43 +1,25 @@
-// Marks and numbers, stored. Each function returns the place past what it wrote.
-ghost use Rattle.std.specs.Prelude.{◌≡◌, [], ◌∷◌, ◌+◌, ◌*◌, ◌<◌, ◌≤◌, length, get_or};
-ghost use Rattle.counting.specs.Lists.{each};
-ghost use Rattle.counting.specs.Widths.{two_bytes};
-ghost use Rattle.counting.specs.Wrote.{Wrote};
-ghost use Rattle.directory.specs.Bytes.{two, mark_length};
+// Numbers, stored.
+ghost use Rattle.std.specs.Prelude.{◌*◌, length};
+ghost use Rattle.directory.specs.Bytes.{two};
+ghost use Rattle.storing.specs.Went.{RoomFor, Went};
+ghost use Rattle.writer.specs.Stored.{twos};
 
-use records::numbers::BYTE;
-use storing::put_byte;
-
-// The two letters of a mark.
-pub fn put_mark(buffer: &mut [u8], at: usize, a: u8, b: u8) -> usize
-    requires { at + mark_length ≤ length buffer.old }
-    ensures { Wrote at (a ∷ b ∷ []) buffer.old buffer.new result }
-{
-    let second = put_byte(buffer, at, a);
-    put_byte(buffer, second, b)
-}
+use storing::Pen;
 
 // A number in two bytes, the low one first.
-pub fn put_two(buffer: &mut [u8], at: usize, x: usize) -> usize
-    requires room { at + 2 ≤ length buffer.old }
-    requires fits { x < two_bytes }
-    ensures { Wrote at (two x) buffer.old buffer.new result }
+pub fn put_two(out: &mut Pen, x: u16)
+    requires { RoomFor 2 out.old }
+    ensures { Went (two x) out.old out.new }
 {
-    let high = put_byte(buffer, at, (x % BYTE) as u8);
-    put_byte(buffer, high, (x / BYTE) as u8)
+    out.bytes(&x.to_le_bytes());
 }
 
 // Numbers in two bytes each, one after the other.
-pub fn put_twos(buffer: &mut [u8], at: usize, numbers: &[u16]) -> usize
-    requires { at + 2 * length numbers.now ≤ length buffer.old }
-    ensures written { Wrote at (each (length numbers.now) (λ i. two (get_or numbers.now i 0))) buffer.old buffer.new result }
-    ensures past { result ≡ at + 2 * length numbers.now }
+pub fn put_twos(out: &mut Pen, numbers: &[u16])
+    requires { RoomFor (2 * length numbers.now) out.old }
+    ensures { Went (twos numbers.now) out.old out.new }
 {
-    let mut to = at;
-    let mut i = 0;
-    while i < numbers.len() {
-        to = put_two(buffer, to, numbers[i] as usize);
-        i += 1;
+    for x in numbers {
+        put_two(out, *x);
     }
-    to
 }

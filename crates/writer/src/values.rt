@@ -1,13 +1,13 @@
 // The values of the vertices, packed four to a byte and stored.
-ghost use Rattle.std.specs.Prelude.{◌≡◌, [], ◌∷◌, ◌+◌, ◌*◌, ◌/◌, ◌<◌, ◌≤◌, length, get_or};
-ghost use Rattle.counting.specs.Lists.{each};
-ghost use Rattle.counting.specs.Wrote.{Wrote};
+ghost use Rattle.std.specs.Prelude.{◌≡◌, ◌+◌, ◌*◌, ◌/◌, ◌<◌, ◌≤◌, length, get_or};
 ghost use Rattle.directory.specs.Sizes.{most_vertices};
-ghost use Rattle.directory.specs.Values.{packed as packedOf, spare_zero};
+ghost use Rattle.directory.specs.Values.{spare_zero};
+ghost use Rattle.storing.specs.Went.{RoomFor, Went};
 ghost use Rattle.writer.specs.Ready.{Small};
+ghost use Rattle.writer.specs.Stored.{byte_of, fours};
 
 use records::offsets::PER_BYTE;
-use storing::put_byte;
+use storing::Pen;
 
 // Two bits hold a value, and the first value of a byte has the lowest: so many bits stand below the second, third and fourth.
 const SECOND: u8 = 2;
@@ -16,12 +16,11 @@ const THIRD: u8 = 4;
 
 const FOURTH: u8 = 6;
 
-// The value of vertex x, and zero for the spare bits past the last vertex.
-fn value_or_zero(values: &[u8], x: usize) -> u8
-    requires { Small values.now }
-    ensures { (result ≡ spare_zero (length values.now) (λ x. get_or values.now x 0) x) × (result ≤ 3) }
-{
-    if x < values.len() { values[x] } else { 0 }
+// The values of all vertices, one to a byte: two bits hold each.
+#[derive(Clone, Copy)]
+pub struct Values<'a> {
+    pub values: &'a [u8],
+    pub ghost small: { Small values.now },
 }
 
 // Four values in a byte, the first in the lowest bits.
@@ -32,47 +31,39 @@ fn pack(a: u8, b: u8, c: u8, d: u8) -> u8
     a | (b << SECOND) | (c << THIRD) | (d << FOURTH)
 }
 
-// Byte b of the values, whose four are all there.
-fn full_byte(values: &[u8], b: usize) -> u8
-    requires small { Small values.now }
-    requires there { 4 * b + 3 < length values.now }
-    ensures { result ≡ packedOf (spare_zero (length values.now) (λ x. get_or values.now x 0)) b }
-{
-    let x = PER_BYTE * b;
-    pack(values[x], values[x + 1], values[x + 2], values[x + 3])
-}
-
-// Byte b of the values, which may have spare bits.
-fn packed(values: &[u8], b: usize) -> u8
-    requires small { Small values.now }
-    requires few { b < most_vertices }
-    ensures { result ≡ packedOf (spare_zero (length values.now) (λ x. get_or values.now x 0)) b }
-{
-    let x = PER_BYTE * b;
-    let first = value_or_zero(values, x);
-    let second = value_or_zero(values, x + 1);
-    let third = value_or_zero(values, x + 2);
-    let fourth = value_or_zero(values, x + 3);
-    pack(first, second, third, fourth)
-}
-
-// All values, four to a byte.
-pub fn put_packed(buffer: &mut [u8], at: usize, values: &[u8]) -> usize
-    requires small { Small values.now }
-    requires few { length values.now ≤ most_vertices }
-    requires room { at + (length values.now + 3) / 4 ≤ length buffer.old }
-    ensures written { Wrote at (each ((length values.now + 3) / 4) (λ b. packedOf (spare_zero (length values.now) (λ x. get_or values.now x 0)) b ∷ [])) buffer.old buffer.new result }
-    ensures past { result ≡ at + (length values.now + 3) / 4 }
-{
-    let full_bytes = values.len() / PER_BYTE;
-    let mut to = at;
-    let mut b = 0;
-    while b < full_bytes {
-        to = put_byte(buffer, to, full_byte(values, b));
-        b += 1;
+impl Values<'_> {
+    // The value of vertex x, and zero for the spare bits past the last vertex.
+    fn value_or_zero(self, x: usize) -> u8
+        ensures { (result ≡ spare_zero (length self.entry.values.now) (λ x. get_or self.entry.values.now x 0) x) × (result ≤ 3) }
+    {
+        self.values.get(x).copied().unwrap_or(0)
     }
-    if PER_BYTE * b < values.len() {
-        return put_byte(buffer, to, packed(values, b));
+
+    // Byte b of the values, which may have spare bits.
+    fn packed(self, b: usize) -> u8
+        requires { b < most_vertices }
+        ensures { result ≡ byte_of self.entry.values.now b }
+    {
+        let x = PER_BYTE * b;
+        let first = self.value_or_zero(x);
+        let second = self.value_or_zero(x + 1);
+        let third = self.value_or_zero(x + 2);
+        let fourth = self.value_or_zero(x + 3);
+        pack(first, second, third, fourth)
     }
-    to
+
+    // All values, four to a byte.
+    pub fn put_packed(self, out: &mut Pen)
+        requires few { length self.values.now ≤ most_vertices }
+        requires room { RoomFor ((length self.values.now + 3) / 4) out.old }
+        ensures { Went (fours self.entry.values.now) out.old out.new }
+    {
+        let (fours, rest) = self.values.as_chunks::<PER_BYTE>();
+        for [a, b, c, d] in fours {
+            out.byte(pack(*a, *b, *c, *d));
+        }
+        if !rest.is_empty() {
+            out.byte(self.packed(fours.len()));
+        }
+    }
 }

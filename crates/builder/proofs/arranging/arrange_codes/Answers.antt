@@ -7,18 +7,22 @@ use Rattle.builder.proofs.arranging.arrange_codes.Goals as goal
 
 pub arrange-requires-clause-held : goal.arrange-requires-clause-held
 arrange-requires-clause-held c =
-    let a = c.args in
-    let sizes = c.requires.sizes in
-    let room = named_most (length a.ends.now) a.r sizes.few sizes.three in
-    edges_held a.run.now a.ends.now a.r a.v a.weights.now [] _ c.name_edges.ensures sizes (omega (arith, room, c.name_edges.auto.edges))
+    let checked = c.args.checked in
+    let naming = checked.naming in
+    let list = checked.codes.list in
+    let room = named_most (length list.ends.now) naming.r checked.few naming.sizes.three in
+    rw c.len.ensures (edges_held list.run.now list.ends.now naming.r naming.v naming.weights.now [] _ c.name_edges.ensures naming.sizes checked.few (omega (arith, room, c.name_edges.auto.edges)))
 
 pub arrange-requires-clause-clear : goal.arrange-requires-clause-clear
 arrange-requires-clause-clear c =
-    let room = c.requires.sizes.room in
+    let room = c.args.checked.naming.sizes.room in
     record {
       no_degrees = λ x l. get_or-replicate most_vertices x 0 0 (omega (arith, room));
       no_sums = λ x l. get_or-replicate most_vertices x 0 0 (omega (arith, room));
     }
 
 pub returns : goal.returns
-returns c buffer = let a = c.args in arranged_list a.run.now a.ends.now a.r a.v a.weights.now buffer c.name_edges.new.edges c.name_edges.ensures c.arrange.ensures
+returns c buffer =
+    let naming = c.args.checked.naming in
+    let list = c.args.checked.codes.list in
+    arranged_list list.run.now list.ends.now naming.r naming.v naming.weights.now buffer c.name_edges.new.edges c.name_edges.ensures (rw c.len.ensures at c.arrange.ensures)

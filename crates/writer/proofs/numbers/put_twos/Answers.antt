@@ -1,10 +1,19 @@
--- What `writer::numbers::put_twos` owes beside its invariant: in each turn one number more is written. Assumes nothing.
-use Rattle.std.proofs.Common.{arith}
-use Rattle.counting.proofs.WroteLaws.{wrote_each_none, wrote_each-next}
+-- What `writer::numbers::put_twos` owes beside its invariant: in each turn one number more is stored. Assumes nothing.
+use Rattle.std.proofs.Common.{rules, arith, get_or}
+use Rattle.storing.proofs.WentLaws.{went_each_none, went_each-next}
+use Rattle.writer.specs.Stored.{twos}
+use Rattle.writer.proofs.StoredLaws.{twos_before}
 use Rattle.writer.proofs.numbers.put_twos.Goals as goal
 
-pub loop-i-init : goal.loop-i-init
-loop-i-init c = (wrote_each_none _ _ _, omega arith, omega arith)
+pub loop-x-init : goal.loop-x-init
+loop-x-init c = went_each_none _ _
 
-pub loop-i-preserved : goal.loop-i-preserved
-loop-i-preserved c = let v = c.loop-i in (wrote_each-next v.i _ v.invariant.0 c.put_two-to.ensures, omega arith, omega arith)
+pub loop-x-preserved : goal.loop-x-preserved
+loop-x-preserved c = went_each-next c.loop-x.x-index _ c.loop-x.invariant c.put_two.ensures
+
+pub put_two-requires : goal.put_two-requires
+put_two-requires c = omega (arith, twos_before c.loop-x.x-index (λ k. get_or c.args.numbers.now k 0))
+
+pub returns : goal.returns
+unfolding twos
+returns c = search rules
