@@ -10,10 +10,3 @@ pub use writing::write_argument;
 
 // The most bytes of a directory file that are read.
 pub const LONGEST_FILE: usize = 65_536;
-
-// How many bytes were read, or that reading failed.
-#[derive(Clone, Copy)]
-pub enum Got {
-    Bytes(usize),
-    Failed,
-}

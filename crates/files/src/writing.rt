@@ -1,12 +1,14 @@
 // A file, written whole under its name with `.new` added, and then given its own name: so nothing half-written ever stands there.
 use crate::names::{name_argument, text_of};
-use beginnings::first_bytes;
+use beginnings::first;
 use std::fs::{OpenFile, OpenOptions};
 use std::io::Write;
 use std::rt::{Env, Files};
 use std::{fs, io};
-use storing::put_bytes;
-use telling::{Tell, say, say_failed};
+use telling::{Tell, Told, say, say_failed};
+
+// What is added to a name.
+const ENDING: &[u8] = b".new";
 
 // The most bytes of a name, and with what is added to it.
 const LONGEST_NAME: usize = 4_096;
@@ -20,23 +22,19 @@ fn write_through(file: &mut (impl Write + OpenFile), bytes: &[u8]) -> io::Result
 }
 
 // Makes a new file of the bytes.
-fn write_new(rt: &(impl Files + Tell), new: &str, bytes: &[u8]) -> bool {
+fn write_new(rt: &(impl Files + Tell), new: &str, bytes: &[u8]) -> Result<(), Told> {
     let mut options = OpenOptions::new();
     options.write(true).create_new(true);
-    let mut file = match options.open(rt, new) {
-        Ok(file) => file,
-        Err(error) => {
-            say_failed(rt, new.as_bytes(), error);
-            return false;
-        }
-    };
+    let mut file = options
+        .open(rt, new)
+        .map_err(|error| say_failed(rt, new.as_bytes(), error))?;
     if let Err(error) = write_through(&mut file, bytes) {
-        say_failed(rt, new.as_bytes(), error);
+        let told = say_failed(rt, new.as_bytes(), error);
         drop(file);
         remove(rt, new);
-        return false;
+        return Err(told);
     }
-    true
+    Ok(())
 }
 
 // Removes what cannot be finished.
@@ -50,34 +48,31 @@ fn remove(rt: &(impl Files + Tell), new: &str) {
 }
 
 // Gives the new file its own name.
-fn rename(rt: &(impl Files + Tell), new: &str, name: &str) -> bool {
-    if let Err(error) = fs::rename(rt, new, name) {
-        say_failed(rt, name.as_bytes(), error);
+fn rename(rt: &(impl Files + Tell), new: &str, name: &str) -> Result<(), Told> {
+    fs::rename(rt, new, name).map_err(|error| {
+        let told = say_failed(rt, name.as_bytes(), error);
         remove(rt, new);
-        return false;
-    }
-    true
+        told
+    })
 }
 
-fn write_named(rt: &(impl Files + Tell), name: &[u8], new: &[u8], bytes: &[u8]) -> bool {
-    let Some(name) = text_of(rt, name) else {
-        return false;
-    };
-    let Some(new) = text_of(rt, new) else {
-        return false;
-    };
-    if !write_new(rt, new, bytes) {
-        return false;
-    }
+fn write_named(
+    rt: &(impl Files + Tell),
+    name: &[u8],
+    new: &[u8],
+    bytes: &[u8],
+) -> Result<(), Told> {
+    let name = text_of(rt, name)?;
+    let new = text_of(rt, new)?;
+    write_new(rt, new, bytes)?;
     rename(rt, new, name)
 }
 
 // Makes the file that argument i names, or leaves it as it was.
-pub fn write_argument(rt: &(impl Env + Files + Tell), i: usize, bytes: &[u8]) -> bool {
+pub fn write_argument(rt: &(impl Env + Files + Tell), i: usize, bytes: &[u8]) -> Result<(), Told> {
     let mut new = [0u8; LONGEST_NEW];
-    let Some(length) = name_argument(rt, i, &mut new[..LONGEST_NAME]) else {
-        return false;
-    };
-    let end = put_bytes(&mut new, length, b".new");
-    write_named(rt, first_bytes(&new, length), first_bytes(&new, end), bytes)
+    let length = name_argument(rt, i, &mut new[..LONGEST_NAME])?;
+    let end = length + ENDING.len();
+    new[length..end].copy_from_slice(ENDING);
+    write_named(rt, first(&new, length), first(&new, end), bytes)
 }

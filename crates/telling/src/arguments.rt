@@ -7,14 +7,12 @@ use std::rt::Env;
 // The most bytes of an argument that are read.
 pub const LONGEST_ARGUMENT: usize = 4_096;
 
-// Puts argument i at the start of a buffer and gives its length back: 0 where there is none, or where it is longer than the buffer.
-pub fn argument(rt: &impl Env, i: usize, buffer: &mut [u8]) -> usize
-    ensures { result ≤ length buffer.new }
+// Argument i, read into a buffer: nothing where there is none, or where it is longer than the buffer.
+pub fn argument<'a>(rt: &impl Env, i: usize, buffer: &'a mut [u8]) -> &'a [u8]
+    ensures { length result.now ≤ length buffer.old }
 {
-    match rt.arg(i, buffer) {
-        Ok(length) => length,
-        Err(_) => 0,
-    }
+    let length = rt.arg(i, buffer).unwrap_or(0);
+    &buffer[..length]
 }
 
 // How many arguments there are, the program's own name among them.

@@ -1,5 +1,5 @@
 // Why a call of the system failed, in the system's words.
-use crate::{Tell, say};
+use crate::{Tell, Told, say};
 use std::fmt::InlineText;
 use std::io;
 
@@ -18,10 +18,11 @@ fn words_of(told: &str) -> &str {
 }
 
 // A line: what failed, as the caller names it, a colon and why.
-pub fn say_failed(rt: &impl Tell, what: &[u8], error: io::Error) {
+pub fn say_failed(rt: &impl Tell, what: &[u8], error: io::Error) -> Told {
     let told = InlineText::<MOST_WORDS>::of(error);
     say(rt, what);
     say(rt, b": ");
     say(rt, words_of(told.as_str()).as_bytes());
     say(rt, b"\n");
+    Told
 }

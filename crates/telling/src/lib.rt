@@ -6,16 +6,19 @@ mod failures; // failures.rt: why a call of the system failed
 mod refusals; // refusals.rt: why something was refused
 
 pub use arguments::{LONGEST_ARGUMENT, argument, argument_count};
-use beginnings::first_bytes;
+use beginnings::first;
 pub use failures::say_failed;
 pub use refusals::refused;
-use std::fmt::InlineText;
+use std::fmt::{Display, InlineText};
 use std::io;
 use std::io::Print;
 use std::rt::Env;
 
 // The most bytes of a line or a word that are shown.
 const MOST_SHOWN: usize = 80;
+
+// The most bytes of a text that is said at once.
+const MOST_TEXT: usize = 256;
 
 // Standard error. It takes any bytes, since an argument need not be text.
 pub trait Tell {
@@ -29,61 +32,48 @@ impl Tell for HostRuntime {
     }
 }
 
+// A failure whose reason was said on standard error.
+#[derive(Clone, Copy)]
+pub struct Told;
+
 // Where standard error takes nothing, nobody can be told.
 pub fn say(rt: &impl Tell, text: &[u8]) {
     let _ = rt.tell(text);
 }
 
-pub fn say_number(rt: &impl Tell, number: usize) {
-    let digits = InlineText::<20>::of(number);
-    say(rt, digits.as_str().as_bytes());
+// What can be shown as text: a number, or words with numbers in them.
+pub fn say_text<D: Display + Drop>(rt: &impl Tell, text: D) {
+    let shown = InlineText::<MOST_TEXT>::of(text);
+    say(rt, shown.as_str().as_bytes());
 }
 
 // Lines and words are counted from 1.
 pub fn say_count(rt: &impl Tell, k: usize) {
-    say_number(rt, if k < usize::MAX { k + 1 } else { k });
+    say_text(rt, k.saturating_add(1));
 }
 
 // The program's argument i.
 pub fn say_argument(rt: &(impl Env + Tell), i: usize) {
-    let mut text = [0u8; LONGEST_ARGUMENT];
-    let length = argument(rt, i, &mut text);
-    say(rt, &text[..length]);
+    let mut buffer = [0u8; LONGEST_ARGUMENT];
+    say(rt, argument(rt, i, &mut buffer));
 }
 
 // Whether a byte is a character that can be seen, or a space.
 fn printable(byte: u8) -> bool {
-    match byte {
-        b' '..=b'~' => true,
-        _ => false,
-    }
-}
-
-fn all_printable(bytes: &[u8]) -> bool {
-    for byte in bytes {
-        if !printable(*byte) {
-            return false;
-        }
-    }
-    true
-}
-
-fn say_byte(rt: &impl Tell, byte: u8) {
-    let digits = InlineText::<2>::of(format_args!("{byte:02x}"));
-    say(rt, digits.as_str().as_bytes());
+    matches!(byte, b' '..=b'~')
 }
 
 fn say_hex(rt: &impl Tell, bytes: &[u8]) {
     say(rt, b"0x");
     for byte in bytes {
-        say_byte(rt, *byte);
+        say_text(rt, format_args!("{byte:02x}"));
     }
 }
 
 // Bytes as they stand, or in hex where one of them cannot be printed; two dots where there are more than are shown.
 pub fn say_bytes(rt: &impl Tell, bytes: &[u8]) {
-    let shown = first_bytes(bytes, MOST_SHOWN);
-    if all_printable(shown) {
+    let shown = first(bytes, MOST_SHOWN);
+    if shown.iter().all(|byte| printable(*byte)) {
         say(rt, shown);
     } else {
         say_hex(rt, shown);
@@ -98,7 +88,7 @@ pub fn say_line(rt: &(impl Env + Tell), i: usize, k: usize, text: &[u8]) {
     say_argument(rt, i);
     say(rt, b", line ");
     say_count(rt, k);
-    if 0 < text.len() {
+    if !text.is_empty() {
         say(rt, b": ");
         say_bytes(rt, text);
     }

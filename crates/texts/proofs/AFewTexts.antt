@@ -1,16 +1,12 @@
 -- A few texts, and what is read of them, computed as one theorem. Assumes nothing.
-use Rattle.std.specs.Prelude.{◌≡◌, refl, Bool, true, not, List, [], ◌∷◌, ◌++◌, ℕ, eqb, ℤ, pos, negsuc, length, replicate}
+use Rattle.std.specs.Prelude.{◌≡◌, refl, Bool, true, not, List, [], ◌∷◌, ◌++◌, ℕ, eqb, ℤ, pos, negsuc, length, replicate, Option, Some, None, Result, Ok, Err}
 use Rattle.counting.specs.Below as Below
 use Rattle.counting.specs.Lists as Lists
 use Rattle.counting.specs.Lists.{same, every}
-use Rattle.texts.specs.declared.Number.{Number}
-use Rattle.texts.specs.declared.Number.TheVariants as number
 use Rattle.texts.specs.declared.Report.{Report}
-use Rattle.texts.specs.declared.Report.TheVariants as report
 use Rattle.texts.specs.declared.Codes.{Codes}
-use Rattle.texts.specs.declared.Codes.TheVariants as codes
-use Rattle.texts.specs.declared.Weights.{Weights}
-use Rattle.texts.specs.declared.Weights.TheVariants as weights
+use Rattle.texts.specs.declared.WrongLine.{WrongLine}
+use Rattle.texts.specs.declared.WrongWord.{WrongWord}
 use Rattle.texts.specs.Parts.{before}
 use Rattle.texts.specs.Lines.{from_line, no_line, without_return, line}
 use Rattle.texts.specs.Words.{from_word, no_word, word}
@@ -22,26 +18,26 @@ use Rattle.texts.specs.Reading.{lines_read, lines_right, run_to, ends_to, run_of
 
 -- ---- answers as numbers: first whether it is wrong
 
-number_says : Number → List ℕ
-number_says (number.Is x) = 0 ∷ x ∷ []
-number_says number.Wrong = 1 ∷ []
+number_says : Option ℕ → List ℕ
+number_says (Some x) = 0 ∷ x ∷ []
+number_says None = 1 ∷ []
 
-codes_say : Codes → List ℕ
-codes_say (codes.Read n size) = 0 ∷ n ∷ size ∷ []
-codes_say (codes.Wrong k) = 1 ∷ k ∷ []
+codes_say : Result Codes WrongLine → List ℕ
+codes_say (Ok codes) = 0 ∷ codes.count ∷ codes.size ∷ []
+codes_say (Err wrong) = 1 ∷ wrong.0 ∷ []
 
-weights_say : Weights → List ℕ
-weights_say (weights.Read n) = 0 ∷ n ∷ []
-weights_say (weights.Wrong k) = 1 ∷ k ∷ []
+weights_say : Result ℕ WrongWord → List ℕ
+weights_say (Ok n) = 0 ∷ n ∷ []
+weights_say (Err wrong) = 1 ∷ wrong.0 ∷ []
 
 -- of a report also the bytes of its code, and whether its level is below zero with one less than its size
 signed_says : ℤ → List ℕ
 signed_says (pos x) = 0 ∷ x ∷ []
 signed_says (negsuc k) = 1 ∷ k ∷ []
 
-report_says : Report → List ℕ
-report_says (report.Is size z time) = 0 ∷ size ∷ signed_says z ++ time ∷ []
-report_says report.Wrong = 1 ∷ []
+report_says : Option Report → List ℕ
+report_says (Some report) = 0 ∷ report.size ∷ signed_says report.level ++ report.time ∷ []
+report_says None = 1 ∷ []
 
 -- ---- the texts
 

@@ -1,39 +1,32 @@
 -- The code of a line: whether it is in hex, and what is kept of it. Assumes nothing.
-use Rattle.std.specs.Prelude.{◌≡◌, refl, ◌≢◌, true, false, ◌&&◌, List, [], ◌∷◌, ℕ, zero, suc, ◌/◌, ◌≤◌, ◌<◌, min, eqb, get_or, take}
-use Rattle.std.proofs.Common.{sym, ap, ◌∙◌, ⊎_elim, arith, take_all, eq-eqb, ne_eqb}
+use Rattle.std.specs.Prelude.{◌≡◌, refl, true, false, ◌&&◌, List, [], ◌∷◌, ℕ, zero, suc, ◌/◌, ◌≤◌, ◌<◌, min, eqb, take, drop, ◌+◌, Option, Some, None, MatchOption}
+use Rattle.std.proofs.Common.{sym, ap, ◌∙◌, ⊎_elim, arith, take_all}
 use Rattle.std.proofs.Math.ListN.{length, length-take}
 use Rattle.std.proofs.Math.Seq.{take-nil}
+use Rattle.std.specs.Borrow.{Bor}
+use Rattle.std.specs.Cmp.Lexicographic.{pointwise}
 use Rattle.std.proofs.lemmas.List.{take-append-le}
-use Rattle.counting.proofs.TestLaws.{lt?, and_true, and_false, clash}
+use Rattle.counting.proofs.TestLaws.{lt?}
 use Rattle.counting.specs.Lists.{same, each}
 use Rattle.counting.proofs.EachLaws.{length-each}
 use Rattle.counting.specs.Wrote.{Wrote}
 use Rattle.counting.proofs.WroteLaws.{wrote_none}
-use Rattle.texts.specs.declared.Code.TheVariants.{Taken, Wrong}
-use Rattle.texts.specs.Codes.{in_hex, hex_digits, first_pairs, pair_byte, wrong_pairs, wrong_line, code_of, most_kept, kept, code_read, code_stored}
+use Rattle.texts.specs.Codes.{hex_sign, in_hex, hex_digits, first_pairs, pair_byte, wrong_pairs, wrong_line, code_of, most_kept, kept, code_read, code_stored}
 
 -- ---- whether a line is in hex
 
-pub sign_short : (l : List ℕ) → length l < 2 → false ≡ in_hex l
-unfolding in_hex same
-sign_short [] h = refl
-sign_short (a ∷ []) h = sym (and_false (eqb a 48))
-sign_short (a ∷ b ∷ t) h = absurd (omega arith)
+-- the library's answer for what follows it
+same_pointwise : (xs ys : List ℕ) → pointwise eqb xs ys ≡ same xs ys
+unfolding same
+same_pointwise [] [] = refl
+same_pointwise [] (y ∷ ys) = refl
+same_pointwise (x ∷ xs) [] = refl
+same_pointwise (x ∷ xs) (y ∷ ys) = ap (λ b. eqb x y && b) (same_pointwise xs ys)
 
-sign-two : (l : List ℕ) → 2 ≤ length l → in_hex l ≡ eqb (get_or l 0 0) 48 && eqb (get_or l 1 0) 120
-unfolding in_hex same
-sign-two [] h = absurd (omega arith)
-sign-two (a ∷ []) h = absurd (omega arith)
-sign-two (a ∷ b ∷ t) h = ap (λ x. eqb a 48 && x) (and_true (eqb b 120))
-
-pub sign-other : (l : List ℕ) → 2 ≤ length l → get_or l 0 0 ≢ 48 → false ≡ in_hex l
-sign-other l h d = rw (sign-two l h, ne_eqb _ _ d)
-
-pub sign_second : (l : List ℕ) → 2 ≤ length l → get_or l 0 0 ≡ 48 → eqb (get_or l 1 0) 120 ≡ in_hex l
-sign_second l h e = rw (sign-two l h, eq-eqb _ _ e)
-
-pub sign_long : (l : List ℕ) → in_hex l ≡ true → 2 ≤ length l
-sign_long l t = ⊎_elim (λ (s : length l < 2). absurd (clash t (sym (sign_short l s)))) (λ (s : 2 ≤ length l). s) (lt? (length l) 2)
+pub sign_stripped : (l : List ℕ) (rest : Option (Bor (List ℕ))) → MatchOption rest (pointwise eqb (take 2 l) hex_sign ≡ false) (λ r. (pointwise eqb (take 2 l) hex_sign ≡ true) × (r.now ≡ drop 2 l) × (length r.now + 2 ≡ length l)) → MatchOption rest (in_hex l ≡ false) (λ r. (in_hex l ≡ true) × (r.now ≡ drop 2 l))
+unfolding in_hex
+sign_stripped l None none = sym (same_pointwise (take 2 l) hex_sign) ∙ none
+sign_stripped l (Some r) some = (sym (same_pointwise (take 2 l) hex_sign) ∙ some.0, some.1)
 
 -- ---- whether it is wrong
 
@@ -81,10 +74,10 @@ module _ (l : List ℕ) where
 
   -- ---- the answer, and what is stored
 
-  pub code_wrong : (array : List ℕ) → wrong_line l ≡ true → (Wrong ≡ code_read l) × Wrote 0 (code_stored l) array array (length (code_stored l))
+  pub code_wrong : (array : List ℕ) → wrong_line l ≡ true → (None ≡ code_read l) × Wrote 0 (code_stored l) array array (length (code_stored l))
   unfolding code_read code_stored
   code_wrong array t = rw t (refl, wrote_none 0 array)
 
-  pub code_taken : {array after : List ℕ} {to : ℕ} → wrong_line l ≡ false → Wrote 0 (kept l) array after to → (Taken to ≡ code_read l) × Wrote 0 (code_stored l) array after (length (code_stored l))
+  pub code_taken : {array after : List ℕ} {to : ℕ} → wrong_line l ≡ false → Wrote 0 (kept l) array after to → (Some to ≡ code_read l) × Wrote 0 (code_stored l) array after (length (code_stored l))
   unfolding code_read code_stored
-  code_taken {array} {after} {to} t w = let e : to ≡ length (kept l) = omega (arith, w.next) in rw t (ap Taken e, rw e at w)
+  code_taken {array} {after} {to} t w = let e : to ≡ length (kept l) = omega (arith, w.next) in rw t (ap Some e, rw e at w)

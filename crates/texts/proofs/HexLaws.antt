@@ -1,73 +1,66 @@
 -- The values of hex digits, and which digits make pairs. Assumes nothing.
-use Rattle.std.specs.Prelude.{◌≡◌, ◌≢◌, Bool, true, false, List, ℕ, ◌+◌, ◌-◌, ◌%◌, ◌≤◌, ◌<◌, eqb, leb, length, get_or}
-use Rattle.std.proofs.Math.Path.{sym}
-use Rattle.std.proofs.Common.{ap, arith}
-use Rattle.std.proofs.Math.Bool.{not}
-use borrow.Author.Tests.{le-leb, lt-leb, eq-eqb, ne_eqb, eqb-false}
-use Rattle.counting.proofs.TestLaws.{and_false, or_second, or_none, or_neither_second}
-use Rattle.counting.proofs.SearchLaws.{any_has, any_none, any_false}
-use Rattle.texts.specs.Numbers.{between}
+use Rattle.std.specs.Prelude.{◌≡◌, ◌≢◌, Bool, false, List, ℕ, ◌+◌, ◌-◌, ◌%◌, ◌≤◌, ◌<◌, ◌||◌, [], ◌∷◌, zero, suc, eqb, length, get_or, Option, Some, None, MatchOption}
+use Rattle.std.proofs.Math.Path.{sym, refl}
+use Rattle.std.proofs.Common.{ap, arith, ◌∙◌}
+use Rattle.std.proofs.Math.Bool.{not, or-false, or_assoc}
+use Rattle.std.proofs.lemmas.Bool.Decides.{nat_tests}
+use Rattle.std.specs.Char.{digit_value}
+use Rattle.std.specs.Option.{SomeIff}
+use Rattle.std.specs.List.{list_any}
+use borrow.Author.Tests.{eq-eqb, ne_eqb, eqb-false}
+use Rattle.counting.proofs.TestLaws.{or_neither_second}
+use Rattle.counting.specs.Below.{any}
+use Rattle.counting.proofs.SearchLaws.{any_false}
 use Rattle.texts.specs.Codes.{hex_value, no_digit, wrong_pairs}
-
--- ---- ranges
-
-inside : (low high b : ℕ) → low ≤ b → b ≤ high → between low high b ≡ true
-inside low high b l h = rw (le-leb low b l, le-leb b high h)
-
-under : (low high b : ℕ) → b < low → between low high b ≡ false
-under low high b l = rw (lt-leb low b l)
-
-over : (low high b : ℕ) → high < b → between low high b ≡ false
-over low high b h = rw (lt-leb b high h) (and_false (leb low b))
 
 -- ---- the value of a digit
 
 module _ (b : ℕ) where
   pub value-decimal : 48 ≤ b → b < 58 → b - 48 ≡ hex_value b
   unfolding hex_value
-  value-decimal l h = rw (inside 48 57 b l (omega arith))
+  value-decimal l h = grind (arith, nat_tests)
 
   pub value_small : 97 ≤ b → b < 103 → b - 97 + 10 ≡ hex_value b
   unfolding hex_value
-  value_small l h = rw (over 48 57 b (omega arith), inside 97 102 b l (omega arith))
+  value_small l h = grind (arith, nat_tests)
 
-  pub value_capital : 65 ≤ b → b < 71 → b - 65 + 10 ≡ hex_value b
+  known : digit_value b < 16 → digit_value b ≡ hex_value b
   unfolding hex_value
-  value_capital l h = rw (over 48 57 b (omega arith), under 97 102 b (omega arith), inside 65 70 b l (omega arith))
+  known l = grind (arith, nat_tests)
 
-  none : between 48 57 b ≡ false → between 97 102 b ≡ false → between 65 70 b ≡ false → no_digit ≡ hex_value b
+  unknown : 16 ≤ digit_value b → hex_value b ≡ no_digit
   unfolding hex_value
-  none d s c = rw (d, s, c)
+  unknown l = grind (arith, nat_tests)
 
-  pub none_first : b < 48 → no_digit ≡ hex_value b
-  none_first h = none (under 48 57 b h) (under 97 102 b (omega arith)) (under 65 70 b (omega arith))
-
-  pub none_second : 58 ≤ b → b < 65 → no_digit ≡ hex_value b
-  none_second l h = none (over 48 57 b l) (under 97 102 b (omega arith)) (under 65 70 b h)
-
-  pub none_third : 71 ≤ b → b < 97 → no_digit ≡ hex_value b
-  none_third l h = none (over 48 57 b (omega arith)) (under 97 102 b h) (over 65 70 b l)
-
-  pub none_last : 103 ≤ b → no_digit ≡ hex_value b
-  none_last l = none (over 48 57 b (omega arith)) (over 97 102 b l) (over 65 70 b (omega arith))
+  -- the library's answer
+  pub digit_found : (answer : Option ℕ) → SomeIff answer (digit_value b < 16) (digit_value b) → MatchOption answer (hex_value b ≡ no_digit) (λ d. (d ≡ hex_value b) × (d < no_digit))
+  digit_found None none = unknown (omega arith)
+  digit_found (Some d) some = let e : d ≡ hex_value b = some.1 ∙ known some.0 in (e, omega arith)
 
 -- ---- pairs
+
+-- the library's search of a list is that of its places
+any_first : (k : ℕ) (test : ℕ → Bool) → test 0 || any k (λ i. test (suc i)) ≡ any (suc k) test
+unfolding any
+any_first zero test = or-false (test 0)
+any_first (suc k) test = sym (or_assoc (test 0) (any k (λ i. test (suc i))) (test (suc k))) ∙ ap (λ b. b || test (suc k)) (any_first k test)
+
+any_listed : (test : ℕ → Bool) (l : List ℕ) → list_any test l ≡ any (length l) (λ i. test (get_or l i 0))
+unfolding any
+any_listed test [] = refl
+any_listed test (x ∷ l) = ap (λ b. test x || b) (any_listed test l) ∙ any_first (length l) (λ i. test (get_or (x ∷ l) i 0))
 
 module _ (digits : List ℕ) where
   abbrev other : ℕ → Bool
   other i = eqb (hex_value (get_or digits i 0)) no_digit
 
-  pub pairs_odd : length digits % 2 ≢ 0 → true ≡ wrong_pairs digits
+  pub pairs_odd : length digits % 2 ≢ 0 → not (eqb (length digits % 2) 0) ≡ wrong_pairs digits
   unfolding wrong_pairs
   pairs_odd d = rw (ne_eqb (length digits % 2) 0 d)
 
-  pub pairs_other : (i : ℕ) → i < length digits → hex_value (get_or digits i 0) ≡ no_digit → true ≡ wrong_pairs digits
+  pub pairs_any : length digits % 2 ≡ 0 → {answer : Bool} → answer ≡ list_any (λ b. eqb (hex_value b) no_digit) digits → answer ≡ wrong_pairs digits
   unfolding wrong_pairs
-  pairs_other i l e = sym (or_second (not (eqb (length digits % 2) 0)) _ (any_has (length digits) other i l (eq-eqb _ _ e)))
-
-  pub pairs_right : length digits % 2 ≡ 0 → ((i : ℕ) → i < length digits → hex_value (get_or digits i 0) ≢ no_digit) → false ≡ wrong_pairs digits
-  unfolding wrong_pairs
-  pairs_right e h = sym (or_none (ap not (eq-eqb (length digits % 2) 0 e)) (any_none (length digits) other (λ i l. ne_eqb _ _ (h i l))))
+  pairs_any e a = rw (eq-eqb (length digits % 2) 0 e) (a ∙ any_listed (λ b. eqb (hex_value b) no_digit) digits)
 
   pub right-digit : wrong_pairs digits ≡ false → (i : ℕ) → i < length digits → hex_value (get_or digits i 0) ≢ no_digit
   unfolding wrong_pairs

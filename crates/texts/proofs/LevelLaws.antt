@@ -1,34 +1,29 @@
 -- Levels in text: their sign, and what the number after it makes of them. Assumes nothing.
-use Rattle.std.specs.Prelude.{◌≡◌, refl, Bool, true, false, List, [], ◌∷◌, ℕ, zero, suc, ◌≤◌, ℤ, pos, neg_ℤ, ◌-ℤ◌, length, drop}
+use Rattle.std.specs.Prelude.{◌≡◌, refl, Bool, true, false, List, [], ◌∷◌, ℕ, zero, suc, ◌≤◌, ℤ, pos, neg_ℤ, ◌-ℤ◌, drop, Some, None, eqb, take}
 use Rattle.std.proofs.Common.{sym, ap, subst, ◌∙◌, arith, SFits, to_z, of_z, to_z-of_z}
 use Rattle.std.proofs.Math.IntN.{+ℤ_idl}
 use Rattle.std.specs.Int.{w32}
 use Rattle.std.proofs.Math.Facts.{to_z_pos}
-use Rattle.counting.proofs.TestLaws.{clash}
-use Rattle.texts.specs.declared.Number.TheVariants as number
-use Rattle.texts.specs.declared.Level.TheVariants.{Is, Wrong}
+use Rattle.counting.proofs.TestLaws.{and_true}
+use Rattle.std.specs.Cmp.Lexicographic.{pointwise}
 use Rattle.texts.specs.Numbers.{number_of}
-use Rattle.texts.specs.Levels.{is_negative, without_sign, most_level, signed_of, level_of}
+use Rattle.texts.specs.Levels.{minus_sign, is_negative, without_sign, most_level, signed_of, level_of}
 
 -- ---- the sign
 
-pub negative_none : (w : List ℕ) → length w ≡ 0 → false ≡ is_negative w
+minus_first : (w : List ℕ) → pointwise eqb (take 1 w) (minus_sign ∷ []) ≡ is_negative w
 unfolding is_negative
-negative_none [] e = refl
-negative_none (b ∷ t) e = absurd (omega arith)
+minus_first [] = refl
+minus_first (b ∷ w) = and_true (eqb b minus_sign)
 
-pub negative_long : (w : List ℕ) → is_negative w ≡ true → 1 ≤ length w
-negative_long [] t = absurd (clash t (sym (negative_none [] refl)))
-negative_long (b ∷ w) t = omega arith
+-- the library's answers for what follows it
+pub minus_stripped : (w : List ℕ) {digits : List ℕ} → pointwise eqb (take 1 w) (minus_sign ∷ []) ≡ true → digits ≡ drop 1 w → (true ≡ is_negative w) × (digits ≡ without_sign w)
+unfolding without_sign
+minus_stripped w t e = let negative = sym (minus_first w) ∙ t in (sym negative, rw negative e)
 
-module _ (w : List ℕ) where
-  pub sign_taken : is_negative w ≡ true → drop 1 w ≡ without_sign w
-  unfolding without_sign
-  sign_taken t = rw t
-
-  pub sign_missing : is_negative w ≡ false → w ≡ without_sign w
-  unfolding without_sign
-  sign_missing t = rw t
+pub no_minus : (w : List ℕ) → pointwise eqb (take 1 w) (minus_sign ∷ []) ≡ false → (false ≡ is_negative w) × (w ≡ without_sign w)
+unfolding without_sign
+no_minus w f = let plain = sym (minus_first w) ∙ f in (sym plain, rw plain)
 
 -- ---- a number with its sign, as the code computes it
 
@@ -54,10 +49,10 @@ plus size m = to_z_pos w32 {n = size} (omega arith)
 -- ---- the answer
 
 module _ (w : List ℕ) where
-  pub level_wrong : number.Wrong ≡ number_of most_level (without_sign w) → Wrong ≡ level_of w
+  pub level_wrong : None ≡ number_of most_level (without_sign w) → None ≡ level_of w
   unfolding level_of
   level_wrong e = rw (← e)
 
-  pub level_is : {negative : Bool} {size : ℕ} {level : ℤ} → negative ≡ is_negative w → number.Is size ≡ number_of most_level (without_sign w) → level ≡ signed_of negative size → Is level ≡ level_of w
+  pub level_is : {negative : Bool} {size : ℕ} {level : ℤ} → negative ≡ is_negative w → Some size ≡ number_of most_level (without_sign w) → level ≡ signed_of negative size → Some level ≡ level_of w
   unfolding level_of
   level_is n e l = rw (← n, ← e, l)

@@ -1,55 +1,44 @@
 -- One line more of a text, as a loop reads them, and a line without its carriage return. Assumes nothing.
-use Rattle.std.specs.Prelude.{◌≡◌, refl, ◌≢◌, true, false, List, ℕ, ◌+◌, ◌-◌, ◌≤◌, ◌<◌, length, get_or, take, drop}
-use Rattle.std.proofs.Common.{sym, ap, ◌∙◌, add-one, arith, drop_of_length-le, drop-drop}
-use borrow.Author.Tests.{lt-ltb, le-ltb, eq-eqb, ne_eqb}
-use Rattle.texts.specs.Parts.{before, since, Left}
-use Rattle.texts.proofs.PartsLaws.{left_here, found_left, left_some, left_none}
+use Rattle.std.specs.Borrow.{Bor}
+use Rattle.std.specs.Cmp.Lexicographic.{pointwise}
+use Rattle.std.specs.Prelude.{[], ◌∷◌, ◌&&◌, eqb, ltb, Option, Some, None, MatchOption, unwrap_or, ◌≡◌, refl, Bool, true, false, List, ℕ, suc, ◌+◌, ◌-◌, ◌≤◌, ◌<◌, length, get_or, take, drop}
+use Rattle.std.proofs.Common.{ap, ◌∙◌, add-one, arith, drop_of_length-le, drop-cons}
+use Rattle.counting.proofs.TestLaws.{and_true}
+use borrow.Author.Tests.{lt-ltb}
+use Rattle.texts.specs.Parts.{before, since}
 use Rattle.texts.specs.Lines.{is_newline, return, from_line, no_line, without_return, line}
 
 -- ---- line after line
 
-module _ {text : List ℕ} {at end : ℕ} (l : at ≤ length text) (found : end ≡ at + length (before is_newline (drop at text))) where
-  abbrev left : Left text end (since is_newline (drop at text))
-  left = found_left is_newline (left_here l) found
-
-  pub past_newline : end < length text → Left text (end + 1) (drop 1 (since is_newline (drop at text)))
-  past_newline m = record { is = sym (drop-drop 1 end text) ∙ ap (drop 1) left.is; inside = omega arith }
-
-  pub past_end : length text ≤ end → Left text end (drop 1 (since is_newline (drop at text)))
-  past_end m = let none = drop_of_length-le text m in record { is = none ∙ ap (drop 1) (sym none ∙ left.is); inside = left.inside }
-
-pub line_first : (text : List ℕ) → Left text 0 (from_line text 0)
+pub line_first : (text : List ℕ) → text ≡ from_line text 0
 unfolding from_line
-line_first text = record { is = refl; inside = omega arith }
+line_first text = refl
 
-pub line-next : {text : List ℕ} {at next : ℕ} (k : ℕ) → Left text at (from_line text k) → Left text next (drop 1 (since is_newline (drop at text))) → Left text next (from_line text (k + 1))
-unfolding from_line
-line-next k l m = record { is = rw (add-one k, ← l.is) m.is; inside = m.inside }
+module _ (text : List ℕ) {rest : List ℕ} (k : ℕ) (is : rest ≡ from_line text k) where
+  pub line_next : {next : List ℕ} → next ≡ drop 1 (since is_newline rest) → next ≡ from_line text (k + 1)
+  unfolding from_line
+  line_next m = rw (add-one k, ← is) m
 
-module _ {text : List ℕ} {at : ℕ} (k : ℕ) (l : Left text at (from_line text k)) where
-  pub line_here : without_return (before is_newline (drop at text)) ≡ line text k
+  pub line_here : without_return (before is_newline rest) ≡ line text k
   unfolding line
-  line_here = rw l.is
+  line_here = ap (λ t. without_return (before is_newline t)) is
 
-  pub line-there : at < length text → no_line text k ≡ false
+  -- a test whether something is left
+  pub line_over : {empty : Bool} → empty ≡ eqb (length rest) 0 → empty ≡ no_line text k
   unfolding no_line
-  line-there = left_some l
-
-  pub line_none : length text ≤ at → no_line text k ≡ true
-  unfolding no_line
-  line_none = left_none l
+  line_over e = e ∙ ap (λ t. eqb (length t) 0) is
 
 -- ---- the carriage return
 
-pub return_none : (l : List ℕ) → length l ≡ 0 → l ≡ without_return l
+-- whether it is the last byte, as the library tests it
+last_byte : (l : List ℕ) (k : ℕ) → k ≡ length l - 1 → pointwise eqb (drop k l) (return ∷ []) ≡ ltb 0 (length l) && eqb (get_or l k 0) return
+last_byte [] k last = let e : k ≡ 0 = omega arith in rw e
+last_byte (b ∷ l) k last =
+    let inside : k < length (b ∷ l) = omega arith in
+    let past : length (b ∷ l) ≤ suc k = omega arith in
+    rw (drop-cons (b ∷ l) k 0 inside, drop_of_length-le (b ∷ l) past, lt-ltb 0 (length (b ∷ l)) (omega arith)) (and_true (eqb (get_or (b ∷ l) k 0) return))
+
+pub return_stripped : (l : Bor (List ℕ)) (front : Option (Bor (List ℕ))) → MatchOption front (pointwise eqb (drop (length l.now - 1) l.now) (return ∷ []) ≡ false) (λ f. (pointwise eqb (drop (length l.now - 1) l.now) (return ∷ []) ≡ true) × (f.now ≡ take (length l.now - 1) l.now) × (length f.now + 1 ≡ length l.now)) → (unwrap_or front l).now ≡ without_return l.now
 unfolding without_return
-return_none l e = rw (le-ltb 0 (length l) (omega arith))
-
-module _ (l : List ℕ) (some : length l ≢ 0) where
-  pub return_taken : (k : ℕ) → k ≡ length l - 1 → get_or l (length l - 1) 0 ≡ return → take k l ≡ without_return l
-  unfolding without_return
-  return_taken k last e = rw (lt-ltb 0 (length l) (omega arith), eq-eqb _ _ e, last)
-
-  pub return_missing : get_or l (length l - 1) 0 ≢ return → l ≡ without_return l
-  unfolding without_return
-  return_missing d = rw (lt-ltb 0 (length l) (omega arith), ne_eqb _ _ d)
+return_stripped l None none = rw (← last_byte l.now (length l.now - 1) refl, none)
+return_stripped l (Some f) some = rw (← last_byte l.now (length l.now - 1) refl, some.0) some.1

@@ -1,15 +1,14 @@
 -- A word read digit by digit: what is known once it turns out wrong, and once it has been read. Assumes nothing.
 use Rattle.std.proofs.Math.Path.{◌≡◌, refl, ap}
 use Rattle.std.proofs.Common.{◌∙◌, add-zero, add-suc, add-one}
-use Rattle.std.specs.Prelude.{◌≢◌, Bool, ◌||◌, List, ℕ, zero, suc, ◌+◌, ◌-◌, ◌*◌, ◌≤◌, ◌<◌, eqb, get_or}
+use Rattle.std.specs.Prelude.{◌≢◌, Bool, ◌||◌, List, ℕ, zero, suc, ◌+◌, ◌-◌, ◌*◌, ◌≤◌, ◌<◌, eqb, get_or, Some, None}
 use Rattle.std.proofs.Math.Bool.{true, false, not}
 use native.Mathlib.Omega.{arith}
 use Rattle.std.proofs.Math.ListN.{length}
-use borrow.Author.Tests.{leb-true, ltb-false, eq-eqb, ne_eqb, lt-ltb, le-ltb}
-use Rattle.counting.proofs.TestLaws.{and_left, or_second, or_none, or_neither_second}
+use borrow.Author.Tests.{ltb-false, eq-eqb, ne_eqb, lt-ltb, le-ltb}
+use Rattle.counting.proofs.TestLaws.{or_second, or_none, or_neither_second}
 use Rattle.counting.specs.Below.{any}
 use Rattle.counting.proofs.SearchLaws.{any_has, any_none}
-use Rattle.texts.specs.declared.Number.TheVariants.{Is, Wrong}
 use Rattle.texts.specs.Numbers.{zero_sign, is_digit, value_of_first, value_of, wrong_number, number_of}
 
 -- ---- the value
@@ -27,60 +26,57 @@ unfolding value_of_first
 value_grows w i zero = rw (add-zero i) (omega arith)
 value_grows w i (suc j) = rw (add-suc i j) (omega (arith, value_grows w i j))
 
-pub digit_least : (b : ℕ) → is_digit b ≡ true → zero_sign ≤ b
-digit_least b t = leb-true zero_sign b (and_left _ _ t)
-
 -- ---- the answer
 
 module _ (most : ℕ) (w : List ℕ) where
   abbrev other : ℕ → Bool
   other i = not (is_digit (get_or w i 0))
 
-  refused : wrong_number most w ≡ true → Wrong ≡ number_of most w
+  refused : wrong_number most w ≡ true → None ≡ number_of most w
   unfolding number_of
   refused t = rw t
 
-  pub number_empty : length w ≡ 0 → Wrong ≡ number_of most w
+  pub number_empty : length w ≡ 0 → None ≡ number_of most w
   unfolding wrong_number
   number_empty e = refused (rw (eq-eqb _ _ e))
 
-  pub number-other : (i : ℕ) → i < length w → is_digit (get_or w i 0) ≡ false → Wrong ≡ number_of most w
+  pub number-other : (i : ℕ) → i < length w → is_digit (get_or w i 0) ≡ false → None ≡ number_of most w
   unfolding wrong_number
   number-other i l t = refused (rw (or_second (eqb (length w) 0) _ (any_has (length w) other i l (ap not t))))
 
-  pub number_large : (i x : ℕ) → i < length w → x ≡ value_of_first w (i + 1) → most < x → Wrong ≡ number_of most w
+  pub number_large : (i x : ℕ) → i < length w → x ≡ value_of_first w (i + 1) → most < x → None ≡ number_of most w
   unfolding wrong_number
   number_large i x l e m =
       let k : i + 1 + (length w - (i + 1)) ≡ length w = omega arith in
       let large : most < value_of w = omega (arith, value_grows w (i + 1) (length w - (i + 1)), ap (value_of_first w) k) in
       refused (or_second (eqb (length w) 0 || any (length w) other) _ (lt-ltb _ _ large))
 
-  pub number_read : (i x : ℕ) → length w ≢ 0 → length w ≡ i → x ≡ value_of_first w i → x ≤ most → ((k : ℕ) → k < i → is_digit (get_or w k 0) ≡ true) → Is x ≡ number_of most w
+  pub number_read : (i x : ℕ) → length w ≢ 0 → length w ≡ i → x ≡ value_of_first w i → x ≤ most → ((k : ℕ) → k < i → is_digit (get_or w k 0) ≡ true) → Some x ≡ number_of most w
   unfolding number_of wrong_number
   number_read i x some whole e m digits =
       let v : x ≡ value_of w = rw (← whole) at e in
       let none = any_none (length w) other (λ k l. ap not (digits k (omega arith))) in
-      rw (or_none (or_none (ne_eqb _ _ some) none) (le-ltb most (value_of w) (omega arith))) (ap Is v)
+      rw (or_none (or_none (ne_eqb _ _ some) none) (le-ltb most (value_of w) (omega arith))) (ap Some v)
 
   -- ---- what the answer tells
 
-  pub number_is : (x : ℕ) → Is x ≡ number_of most w → (wrong_number most w ≡ false) × (x ≡ value_of w)
+  pub number_is : (x : ℕ) → Some x ≡ number_of most w → (wrong_number most w ≡ false) × (x ≡ value_of w)
   unfolding number_of
   number_is x e = go (wrong_number most w) refl
     where
       go : (b : Bool) → wrong_number most w ≡ b → (wrong_number most w ≡ false) × (x ≡ value_of w)
-      go true t = let z : Is x ≡ Wrong = e ∙ rw t in let y : ◌≡◌ {A = ℕ} 0 1 = cc in absurd (omega arith)
-      go false t = let z : Is x ≡ Is (value_of w) = e ∙ rw t in (t, (cc))
+      go true t = let z : Some x ≡ None = e ∙ rw t in cc
+      go false t = let z : Some x ≡ Some (value_of w) = e ∙ rw t in (t, (cc))
 
-  pub number_wrong : Wrong ≡ number_of most w → wrong_number most w ≡ true
+  pub number_wrong : None ≡ number_of most w → wrong_number most w ≡ true
   unfolding number_of
   number_wrong e = go (wrong_number most w) refl
     where
       go : (b : Bool) → wrong_number most w ≡ b → wrong_number most w ≡ true
       go true t = t
-      go false t = let z : Wrong ≡ Is (value_of w) = e ∙ rw t in cc
+      go false t = let z : None ≡ Some (value_of w) = e ∙ rw t in cc
 
-  pub number_most : (x : ℕ) → Is x ≡ number_of most w → x ≤ most
+  pub number_most : (x : ℕ) → Some x ≡ number_of most w → x ≤ most
   unfolding wrong_number
   number_most x e =
       let r = number_is x e in

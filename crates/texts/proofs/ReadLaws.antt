@@ -1,7 +1,7 @@
 -- How much is read of a text at most, what the answers tell of it, and that what is read stands at the start of the arrays. Assumes nothing.
 use Rattle.std.proofs.Math.Path.{◌≡◌, refl}
 use Rattle.std.proofs.Common.{ap, ◌∙◌}
-use Rattle.std.specs.Prelude.{Bool, List, [], ◌∷◌, take, drop}
+use Rattle.std.specs.Prelude.{Bool, List, [], ◌∷◌, take, drop, Result, Ok, Err}
 use Rattle.std.proofs.Math.Bool.{true, false}
 use Prim.Native.Nat.{ℕ, zero, suc, ◌*◌, ◌≤◌}
 use native.Mathlib.Omega.{arith}
@@ -14,8 +14,9 @@ use Rattle.counting.proofs.EachLaws.{length-each}
 use Rattle.counting.proofs.SearchLaws.{lowest_is}
 use Rattle.counting.specs.Wrote.{Wrote}
 use Rattle.counting.proofs.WroteLaws.{wrote_whole}
-use Rattle.texts.specs.declared.Codes.TheVariants as codes
-use Rattle.texts.specs.declared.Weights.TheVariants as weights
+use Rattle.texts.specs.declared.Codes.{Codes}
+use Rattle.texts.specs.declared.WrongLine.{WrongLine}
+use Rattle.texts.specs.declared.WrongWord.{WrongWord}
 use Rattle.texts.specs.Lines.{no_line, line}
 use Rattle.texts.specs.Words.{no_word, word}
 use Rattle.texts.specs.Numbers.{value_of, wrong_number}
@@ -58,26 +59,25 @@ module _ (text : List ℕ) where
 
   -- ---- what the answers tell
 
-  pub codes_read_lem : {n size : ℕ} → codes.Read n size ≡ codes_of text → (n ≡ lines_right text) × (size ≡ length (run_of text))
+  pub codes_read_lem : {codes : Codes} → Ok codes ≡ codes_of text → (codes.count ≡ lines_right text) × (codes.size ≡ length (run_of text))
   unfolding codes_of
-  codes_read_lem {n} {size} e = go (ltb (lines_right text) (lines_read text)) refl
+  codes_read_lem {codes} e = go (ltb (lines_right text) (lines_read text)) refl
     where
-      go : (b : Bool) → ltb (lines_right text) (lines_read text) ≡ b → (n ≡ lines_right text) × (size ≡ length (run_of text))
-      go true t = let z : codes.Read n size ≡ codes.Wrong (lines_right text) = e ∙ rw t in let y : ◌≡◌ {A = ℕ} 0 1 = cc in absurd (omega arith)
+      go : (b : Bool) → ltb (lines_right text) (lines_read text) ≡ b → (codes.count ≡ lines_right text) × (codes.size ≡ length (run_of text))
+      go true t = let z : ◌≡◌ {A = Result Codes WrongLine} (Ok codes) (Err (record { 0 = lines_right text })) = e ∙ rw t in cc
       go false t =
-          let z : codes.Read n size ≡ codes.Read (lines_read text) (length (run_of text)) = e ∙ rw t in
-          let a : n ≡ lines_read text = cc in
-          let b : size ≡ length (run_of text) = cc in
-          (omega (arith, ltb-false (lines_right text) (lines_read text) t, lines_fewer), b)
+          let z : ◌≡◌ {A = Result Codes WrongLine} (Ok codes) (Ok (record { count = lines_read text; size = length (run_of text) })) = e ∙ rw t in
+          let same : codes ≡ record { count = lines_read text; size = length (run_of text) } = cc in
+          (ap (λ (c : Codes). c.count) same ∙ omega (arith, ltb-false (lines_right text) (lines_read text) t, lines_fewer), ap (λ (c : Codes). c.size) same)
 
-  pub weights_read : {n : ℕ} → weights.Read n ≡ weights_of text → n ≡ words_right text
+  pub weights_read : {n : ℕ} → Ok n ≡ weights_of text → n ≡ words_right text
   unfolding weights_of
   weights_read {n} e = go (ltb (words_right text) (words_read text)) refl
     where
       go : (b : Bool) → ltb (words_right text) (words_read text) ≡ b → n ≡ words_right text
-      go true t = let z : weights.Read n ≡ weights.Wrong (words_right text) = e ∙ rw t in let y : ◌≡◌ {A = ℕ} 0 1 = cc in absurd (omega arith)
+      go true t = let z : ◌≡◌ {A = Result ℕ WrongWord} (Ok n) (Err (record { 0 = words_right text })) = e ∙ rw t in cc
       go false t =
-          let z : weights.Read n ≡ weights.Read (words_read text) = e ∙ rw t in
+          let z : ◌≡◌ {A = Result ℕ WrongWord} (Ok n) (Ok (words_read text)) = e ∙ rw t in
           let a : n ≡ words_read text = cc in
           omega (arith, ltb-false (words_right text) (words_read text) t, words_fewer)
 

@@ -1,9 +1,7 @@
 -- The code of a line. Assumes nothing.
-use Rattle.std.specs.Prelude.{Bool, not, ◌&&◌, ◌||◌, cond, List, [], ◌∷◌, ℕ, ◌+◌, ◌-◌, ◌*◌, ◌/◌, ◌%◌, eqb, length, get_or, take, drop}
+use Rattle.std.specs.Prelude.{Bool, not, ◌&&◌, ◌||◌, cond, List, [], ◌∷◌, ℕ, ◌+◌, ◌-◌, ◌*◌, ◌/◌, ◌%◌, eqb, length, get_or, take, drop, Option, Some, None}
 use Rattle.counting.specs.Below.{any}
 use Rattle.counting.specs.Lists.{same, each}
-use Rattle.texts.specs.declared.Code.{Code}
-use Rattle.texts.specs.declared.Code.TheVariants.{Taken, Wrong}
 use Rattle.texts.specs.Numbers.{between}
 
 -- ---- hex digits
@@ -62,8 +60,8 @@ unfoldable pub kept : List ℕ → List ℕ
 kept l = take most_kept (code_of l)
 
 -- the number of bytes kept
-unfoldable pub code_read : List ℕ → Code
-code_read l = cond (wrong_line l) Wrong (Taken (length (kept l)))
+unfoldable pub code_read : List ℕ → Option ℕ
+code_read l = cond (wrong_line l) None (Some (length (kept l)))
 
 -- what is stored of it
 unfoldable pub code_stored : List ℕ → List ℕ

@@ -1,12 +1,8 @@
 -- Levels in text: numbers that may start with `-`. Assumes nothing.
-use Rattle.std.specs.Prelude.{Bool, true, false, cond, List, ℕ, eqb, ℤ, pos, neg_ℤ, get_or, drop}
-use Rattle.texts.specs.declared.Number.{Number}
-use Rattle.texts.specs.declared.Number.TheVariants as number
-use Rattle.texts.specs.declared.Level.{Level}
-use Rattle.texts.specs.declared.Level.TheVariants.{Is, Wrong}
+use Rattle.std.specs.Prelude.{Bool, true, false, cond, List, ℕ, eqb, ℤ, pos, neg_ℤ, get_or, drop, Option, Some, None}
 use Rattle.texts.specs.Numbers.{number_of}
 
-abbrev minus_sign : ℕ
+abbrev pub minus_sign : ℕ
 minus_sign = 0x2D
 
 -- whether a word starts with `-`, as no empty one does
@@ -25,9 +21,9 @@ unfoldable pub signed_of : Bool → ℕ → ℤ
 signed_of true size = neg_ℤ (pos size)
 signed_of false size = pos size
 
-abbrev pub level_from : Bool → Number → Level
-level_from negative (number.Is size) = Is (signed_of negative size)
-level_from negative number.Wrong = Wrong
+abbrev pub level_from : Bool → Option ℕ → Option ℤ
+level_from negative (Some size) = Some (signed_of negative size)
+level_from negative None = None
 
-unfoldable pub level_of : List ℕ → Level
+unfoldable pub level_of : List ℕ → Option ℤ
 level_of w = level_from (is_negative w) (number_of most_level (without_sign w))

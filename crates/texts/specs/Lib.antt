@@ -6,4 +6,3 @@ pub mod Levels
 pub mod Codes
 pub mod Reports
 pub mod Reading
-pub mod Stops

@@ -1,8 +1,6 @@
 -- Decimal numbers in text, from 0 to the largest that is allowed. Assumes nothing.
-use Rattle.std.specs.Prelude.{Bool, not, ◌&&◌, ◌||◌, cond, List, ℕ, zero, suc, ◌+◌, ◌-◌, ◌*◌, eqb, ltb, leb, length, get_or}
+use Rattle.std.specs.Prelude.{Bool, not, ◌&&◌, ◌||◌, cond, List, ℕ, zero, suc, ◌+◌, ◌-◌, ◌*◌, eqb, ltb, leb, length, get_or, Option, Some, None}
 use Rattle.counting.specs.Below.{any}
-use Rattle.texts.specs.declared.Number.{Number}
-use Rattle.texts.specs.declared.Number.TheVariants.{Is, Wrong}
 
 -- a byte between two, the two included
 abbrev pub between : ℕ → ℕ → ℕ → Bool
@@ -28,5 +26,5 @@ value_of w = value_of_first w (length w)
 unfoldable pub wrong_number : ℕ → List ℕ → Bool
 wrong_number most w = eqb (length w) 0 || any (length w) (λ i. not (is_digit (get_or w i 0))) || ltb most (value_of w)
 
-unfoldable pub number_of : ℕ → List ℕ → Number
-number_of most w = cond (wrong_number most w) Wrong (Is (value_of w))
+unfoldable pub number_of : ℕ → List ℕ → Option ℕ
+number_of most w = cond (wrong_number most w) None (Some (value_of w))

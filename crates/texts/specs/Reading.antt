@@ -1,11 +1,10 @@
 -- What is read of a text of codes and of a text of weights: the answer, and the numbers stored. Assumes nothing.
-use Rattle.std.specs.Prelude.{cond, List, [], ◌∷◌, ℕ, suc, ◌*◌, ltb, length}
+use Rattle.std.specs.Prelude.{cond, List, [], ◌∷◌, ℕ, suc, ◌*◌, ltb, length, Result, Ok, Err}
 use Rattle.counting.specs.Below.{lowest}
 use Rattle.counting.specs.Lists.{each}
 use Rattle.texts.specs.declared.Codes.{Codes}
-use Rattle.texts.specs.declared.Codes.TheVariants as codes
-use Rattle.texts.specs.declared.Weights.{Weights}
-use Rattle.texts.specs.declared.Weights.TheVariants as weights
+use Rattle.texts.specs.declared.WrongLine.{WrongLine}
+use Rattle.texts.specs.declared.WrongWord.{WrongWord}
 use Rattle.texts.specs.Lines.{line, no_line}
 use Rattle.texts.specs.Words.{word, no_word}
 use Rattle.texts.specs.Numbers.{value_of, wrong_number}
@@ -41,8 +40,8 @@ abbrev pub ends_of : List ℕ → List ℕ
 ends_of text = ends_to text (lines_right text)
 
 -- the first wrong line, or how many codes there are and the bytes of all
-unfoldable pub codes_of : List ℕ → Codes
-codes_of text = cond (ltb (lines_right text) (lines_read text)) (codes.Wrong (lines_right text)) (codes.Read (lines_read text) (length (run_of text)))
+unfoldable pub codes_of : List ℕ → Result Codes WrongLine
+codes_of text = cond (ltb (lines_right text) (lines_read text)) (Err (record { 0 = lines_right text })) (Ok (record { count = lines_read text; size = length (run_of text) }))
 
 -- the room that the codes take at most
 abbrev pub most_run : ℕ
@@ -74,5 +73,5 @@ abbrev pub values_of : List ℕ → List ℕ
 values_of text = values_to text (words_right text)
 
 -- the first word that is no number, or how many there are
-unfoldable pub weights_of : List ℕ → Weights
-weights_of text = cond (ltb (words_right text) (words_read text)) (weights.Wrong (words_right text)) (weights.Read (words_read text))
+unfoldable pub weights_of : List ℕ → Result ℕ WrongWord
+weights_of text = cond (ltb (words_right text) (words_read text)) (Err (record { 0 = words_right text })) (Ok (words_read text))

@@ -1,52 +1,39 @@
-// Where the lines and words of a text begin and end.
-ghost use Rattle.std.specs.Prelude.{◌≡◌, ◌+◌, length, drop};
-ghost use Rattle.texts.specs.Parts.{before};
-ghost use Rattle.texts.specs.Words.{is_blank as isBlankOf};
-ghost use Rattle.texts.specs.Stops.{stops_at};
+// Where the lines and words of a text end.
+ghost use Rattle.std.specs.Prelude.{◌≡◌, ◌≤◌, Bool, ℕ, length};
+ghost use Rattle.texts.specs.Lines.{is_newline};
+ghost use Rattle.texts.specs.Parts.{before, since, Computes};
+ghost use Rattle.texts.specs.Words.{is_blank};
 
-// What a search stops at: the end of a line, the end of a word, or the beginning of one.
-#[derive(Clone, Copy)]
-pub enum Stop {
-    Newline,
-    Blank,
-    Word,
+pub(crate) fn is_newline(b: u8) -> bool
+    ensures { result ≡ is_newline b }
+{
+    b == b'\n'
 }
 
-fn is_blank(b: u8) -> bool
-    ensures { result ≡ isBlankOf b }
+pub(crate) fn is_blank(b: u8) -> bool
+    ensures { result ≡ is_blank b }
 {
-    if b == b'\t' {
-        return true;
-    }
-    if b == b'\n' {
-        return true;
-    }
-    if b == b'\r' {
-        return true;
-    }
-    b == b' '
+    matches!(b, b'\t' | b'\n' | b'\r' | b' ')
 }
 
-fn stops(stop: Stop, b: u8) -> bool
-    ensures { result ≡ stops_at stop b }
+// What stands before the first byte that passes a test, and all of the text where none does.
+pub(crate) fn until<F: Fn(u8) -> bool>(text: &[u8], passes: F) -> &[u8]
+    requires { F.IsAlwaysCallable passes }
+    ensures part { length result.now ≤ length text.now }
+    ensures before { (test : ℕ → Bool) → Computes (F.post passes) test → result.now ≡ before test text.now }
 {
-    match stop {
-        Stop::Newline => b == b'\n',
-        Stop::Blank => is_blank(b),
-        Stop::Word => !is_blank(b),
-    }
-}
-
-// The first place from `at` on at which a search stops, and the end of the text where there is none.
-pub fn find(text: &[u8], at: usize, stop: Stop) -> usize
-    ensures { result ≡ at + length (before (stops_at stop) (drop at text.now)) }
-{
-    let mut to = at;
-    while to < text.len() {
-        if stops(stop, text[to]) {
-            return to;
+    for (i, b) in text.iter().enumerate() {
+        if passes(*b) {
+            return &text[..i];
         }
-        to += 1;
     }
-    to
+    text
+}
+
+// What stands from that byte on.
+pub(crate) fn since<F: Fn(u8) -> bool>(text: &[u8], passes: F) -> &[u8]
+    requires { F.IsAlwaysCallable passes }
+    ensures { (test : ℕ → Bool) → Computes (F.post passes) test → result.now ≡ since test text.now }
+{
+    &text[until(text, passes).len()..]
 }

@@ -1,42 +1,24 @@
 // Hex digits, and the bytes of pairs of them.
-ghost use Rattle.std.specs.Prelude.{◌≡◌, ◌≢◌, false, ◌+◌, ◌*◌, ◌≤◌, length};
-ghost use Rattle.counting.specs.Wrote.{Wrote};
+ghost use Rattle.std.specs.Prelude.{◌≡◌, ◌≢◌, false, ◌+◌, ◌*◌, ◌<◌, ◌≤◌, length, MatchOption};
+ghost use Rattle.storing.specs.Went.{RoomFor, Went};
 ghost use Rattle.texts.specs.Codes.{hex_value, no_digit, wrong_pairs, first_pairs};
 
-use storing::put_byte;
+use storing::Pen;
 
-const SIXTEEN: u8 = 16;
+const SIXTEEN: u32 = 16;
 
-const TEN: u8 = 10;
-
-// The value of a digit, and 16 for what is none.
-#[tactic(auto, using(std::proofs::lemmas::Bool::Decides::nat_tests), unfolding(crate::specs::Codes::hex_value))]
-fn hex_value(b: u8) -> u8
-    ensures { (result ≡ hex_value b) × (result ≤ no_digit) }
+// The value of a digit.
+fn hex_value(b: u8) -> Option<u32>
+    ensures { MatchOption result (hex_value b ≡ no_digit) (λ d. (d ≡ hex_value b) × (d < no_digit)) }
 {
-    match b {
-        b'0'..=b'9' => b - b'0',
-        b'a'..=b'f' => b - b'a' + TEN,
-        b'A'..=b'F' => b - b'A' + TEN,
-        _ => SIXTEEN,
-    }
+    char::from(b).to_digit(SIXTEEN)
 }
 
 // Whether the digits are odd in number, or one of them is none.
 pub(crate) fn wrong_pairs(digits: &[u8]) -> bool
     ensures { result ≡ wrong_pairs digits.now }
 {
-    if digits.len() % 2 != 0 {
-        return true;
-    }
-    let mut i = 0;
-    while i < digits.len() {
-        if hex_value(digits[i]) == SIXTEEN {
-            return true;
-        }
-        i += 1;
-    }
-    false
+    digits.len() % 2 != 0 || digits.iter().any(|b| hex_value(*b).is_none())
 }
 
 // The byte of two digits.
@@ -44,21 +26,16 @@ fn pair_byte(high: u8, low: u8) -> u8
     requires { (hex_value high ≢ no_digit) × (hex_value low ≢ no_digit) }
     ensures { result ≡ 16 * hex_value high + hex_value low }
 {
-    SIXTEEN * hex_value(high) + hex_value(low)
+    (SIXTEEN * hex_value(high).unwrap() + hex_value(low).unwrap()) as u8
 }
 
 // Writes the bytes of the first pairs, so many of them.
-pub(crate) fn put_pairs(run: &mut [u8], at: usize, digits: &[u8], pairs: usize) -> usize
+pub(crate) fn put_pairs(out: &mut Pen, digits: &[u8], pairs: usize)
     requires right { wrong_pairs digits.now ≡ false }
-    requires room { (2 * pairs ≤ length digits.now) × (at + pairs ≤ length run.old) }
-    ensures { Wrote at (first_pairs digits.now pairs) run.old run.new result }
+    requires room { (2 * pairs ≤ length digits.now) × RoomFor pairs out.old }
+    ensures { Went (first_pairs digits.now pairs) out.old out.new }
 {
-    let mut to = at;
-    let mut i = 0;
-    while i < pairs {
-        let b = pair_byte(digits[2 * i], digits[2 * i + 1]);
-        to = put_byte(run, to, b);
-        i += 1;
+    for i in 0..pairs {
+        out.byte(pair_byte(digits[2 * i], digits[2 * i + 1]));
     }
-    to
 }

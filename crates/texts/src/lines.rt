@@ -1,63 +1,49 @@
 // The lines of a text.
-ghost use Rattle.std.specs.Prelude.{◌≡◌, ◌≤◌, length, drop};
-ghost use Rattle.texts.specs.Parts.{before, since, Left};
+ghost use Rattle.std.specs.Prelude.{◌≡◌, drop};
+ghost use Rattle.texts.specs.Parts.{before, since};
 ghost use Rattle.texts.specs.Lines.{is_newline, without_return, from_line, line as line_of};
 
-use crate::finding::{Stop, find};
+use crate::finding::{is_newline, since, until};
 
 // A line without the carriage return just before its end.
-#[tactic(auto, using(std::proofs::lemmas::Bool::Decides::nat_tests), unfolding(crate::specs::Lines::without_return))]
-pub(crate) fn without_return(line: &[u8]) -> &[u8]
+#[tactic(auto, using(crate::proofs::LineSteps::return_stripped))]
+fn without_return(line: &[u8]) -> &[u8]
     ensures { result.now ≡ without_return line.now }
 {
-    let length = line.len();
-    if length == 0 {
-        return line;
-    }
-    let last = length - 1;
-    if line[last] == b'\r' {
-        return &line[0..last];
-    }
-    line
+    line.strip_suffix(b"\r").unwrap_or(line)
 }
 
-// The line that begins at a place.
-pub fn line_at(text: &[u8], at: usize) -> &[u8]
-    requires { at ≤ length text.now }
-    ensures { result.now ≡ without_return (before is_newline (drop at text.now)) }
+// The line that a text begins with.
+pub fn first_line(text: &[u8]) -> &[u8]
+    ensures { result.now ≡ without_return (before is_newline text.now) }
 {
-    let end = find(text, at, Stop::Newline);
-    without_return(&text[at..end])
+    without_return(until(text, is_newline))
 }
 
-// Where the line after it begins: past its newline, or at the end of the text where it has none.
-pub fn next_line(text: &[u8], at: usize) -> usize
-    requires { at ≤ length text.now }
-    ensures { Left text.now result (drop 1 (since is_newline (drop at text.now))) }
+// What follows the newline of that line, and nothing where it has none.
+pub fn after_line(text: &[u8]) -> &[u8]
+    ensures { result.now ≡ drop 1 (since is_newline text.now) }
 {
-    let end = find(text, at, Stop::Newline);
-    if end < text.len() {
-        return end + 1;
-    }
-    end
+    let ended = since(text, is_newline);
+    ended.get(1..).unwrap_or(ended)
 }
 
-// Where line k begins.
-fn line_start(text: &[u8], k: usize) -> usize
-    ensures { Left text.now result (from_line text.now k) }
+// The text from line k on.
+#[tactic(auto, using(crate::proofs::LineSteps::line_first, crate::proofs::LineSteps::line_next))]
+fn from_line(text: &[u8], k: usize) -> &[u8]
+    ensures { result.now ≡ from_line text.now k }
 {
-    let mut at = 0;
-    let mut i = 0;
-    while i < k {
-        at = next_line(text, at);
-        i += 1;
+    let mut rest = text;
+    for _i in 0..k {
+        rest = after_line(rest);
     }
-    at
+    rest
 }
 
 // Line k, as a part of the text.
+#[tactic(auto, using(crate::proofs::LineSteps::line_here))]
 pub fn line(text: &[u8], k: usize) -> &[u8]
     ensures { result.now ≡ line_of text.now k }
 {
-    line_at(text, line_start(text, k))
+    first_line(from_line(text, k))
 }

@@ -1,17 +1,6 @@
 // A decimal number.
 ghost use Rattle.std.specs.Prelude.{◌≡◌, ◌+◌, ◌-◌, ◌*◌, ◌<◌, ◌≤◌, ◌^◌};
-ghost use Rattle.texts.specs.Numbers.{zero_sign, is_digit, number_of};
-
-use crate::Number;
-
-fn is_digit(b: u8) -> bool
-    ensures { result ≡ is_digit b }
-{
-    if b < b'0' {
-        return false;
-    }
-    b <= b'9'
-}
+ghost use Rattle.texts.specs.Numbers.{zero_sign, number_of};
 
 // A number with one more digit.
 fn with_digit(x: usize, b: u8) -> usize
@@ -22,24 +11,21 @@ fn with_digit(x: usize, b: u8) -> usize
 }
 
 // The number that a word stands for, if it is at most the largest that is allowed.
-pub fn read_number(word: &[u8], most: u32) -> Number
+pub fn read_number(word: &[u8], most: u32) -> Option<u32>
     ensures { result ≡ number_of most word.now }
 {
-    if word.len() == 0 {
-        return Number::Wrong;
+    if word.is_empty() {
+        return None;
     }
     let mut x = 0;
-    let mut i = 0;
-    while i < word.len() {
-        let b = word[i];
-        if !is_digit(b) {
-            return Number::Wrong;
+    for b in word {
+        if !b.is_ascii_digit() {
+            return None;
         }
-        x = with_digit(x, b);
+        x = with_digit(x, *b);
         if (most as usize) < x {
-            return Number::Wrong;
+            return None;
         }
-        i += 1;
     }
-    Number::Is(x as u32)
+    Some(x as u32)
 }

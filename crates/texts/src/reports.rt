@@ -3,13 +3,13 @@ ghost use Rattle.std.specs.Prelude.{◌≡◌, length};
 ghost use Rattle.counting.specs.Wrote.{Wrote};
 ghost use Rattle.texts.specs.Words.{word as word_of};
 ghost use Rattle.texts.specs.Codes.{code_stored};
-ghost use Rattle.texts.specs.Reports.{report_from, report_of};
+ghost use Rattle.texts.specs.Reports.{report_of};
 
+use crate::Report;
 use crate::coding::{MOST_KEPT, read_code};
 use crate::levels::read_level;
 use crate::numbers::read_number;
 use crate::words::{no_word, word};
-use crate::{Code, Level, Number, Report};
 
 // The words' places, and how many there are.
 const CODE: usize = 0;
@@ -23,31 +23,16 @@ const WORDS: usize = 3;
 // The largest time, a number of 32 bits.
 pub const MOST_TIME: u32 = 4_294_967_295;
 
-fn report_from(code: Code, level: Level, time: Number) -> Report
-    ensures { result ≡ report_from code level time }
-{
-    let Code::Taken(size) = code else {
-        return Report::Wrong;
-    };
-    let Level::Is(height) = level else {
-        return Report::Wrong;
-    };
-    let Number::Is(seconds) = time else {
-        return Report::Wrong;
-    };
-    Report::Is(size, height, seconds)
-}
-
 // The report that a line is. What is kept of its code goes to the start of an array.
-pub fn read_report(line: &[u8], code: &mut [u8; MOST_KEPT]) -> Report
+pub fn read_report(line: &[u8], code: &mut [u8; MOST_KEPT]) -> Option<Report>
     ensures answer { result ≡ report_of line.now }
     ensures stored { Wrote 0 (code_stored (word_of line.now 0)) code.old code.new (length (code_stored (word_of line.now 0))) }
 {
-    let taken = read_code(word(line, CODE), code);
+    let size = read_code(word(line, CODE), code)?;
+    let level = read_level(word(line, LEVEL))?;
+    let time = read_number(word(line, TIME), MOST_TIME)?;
     if !no_word(line, WORDS) {
-        return Report::Wrong;
+        return None;
     }
-    let level = read_level(word(line, LEVEL));
-    let time = read_number(word(line, TIME), MOST_TIME);
-    report_from(taken, level, time)
+    Some(Report { size, level, time })
 }

@@ -1,61 +1,55 @@
 // The words of a text.
-ghost use Rattle.std.specs.Prelude.{◌≡◌, ◌≤◌, length, drop};
-ghost use Rattle.texts.specs.Parts.{before, since, Left};
+ghost use Rattle.std.specs.Prelude.{◌≡◌};
+ghost use Rattle.texts.specs.Parts.{before, since};
 ghost use Rattle.texts.specs.Words.{is_blank, not_blank, from_word, no_word, word as word_of};
 
-use crate::finding::{Stop, find};
+use crate::finding::{is_blank, since, until};
 
-// The word that begins at a place.
-pub(crate) fn word_at(text: &[u8], at: usize) -> &[u8]
-    requires { at ≤ length text.now }
-    ensures { result.now ≡ before is_blank (drop at text.now) }
+// What a text has after the blanks that it begins with.
+pub(crate) fn past_blanks(text: &[u8]) -> &[u8]
+    ensures { result.now ≡ since not_blank text.now }
 {
-    let end = find(text, at, Stop::Blank);
-    &text[at..end]
+    since(text, |b| !is_blank(b))
 }
 
-// Where the word after it begins.
-pub(crate) fn next_word(text: &[u8], at: usize) -> usize
-    requires { at ≤ length text.now }
-    ensures { Left text.now result (since not_blank (since is_blank (drop at text.now))) }
+// The word that a text begins with.
+pub(crate) fn first_word(text: &[u8]) -> &[u8]
+    ensures { result.now ≡ before is_blank text.now }
 {
-    let end = find(text, at, Stop::Blank);
-    find(text, end, Stop::Word)
+    until(text, is_blank)
 }
 
-// Where the first word begins.
-pub(crate) fn first_word(text: &[u8]) -> usize
-    ensures { Left text.now result (from_word text.now 0) }
+// The text from the word after it on.
+pub(crate) fn after_word(text: &[u8]) -> &[u8]
+    ensures { result.now ≡ since not_blank (since is_blank text.now) }
 {
-    find(text, 0, Stop::Word)
+    past_blanks(since(text, is_blank))
 }
 
-// Where word k begins.
-fn word_start(text: &[u8], k: usize) -> usize
-    ensures { Left text.now result (from_word text.now k) }
+// The text from word k on.
+#[tactic(auto, using(crate::proofs::WordSteps::word_first, crate::proofs::WordSteps::word_next))]
+fn from_word(text: &[u8], k: usize) -> &[u8]
+    ensures { result.now ≡ from_word text.now k }
 {
-    let mut at = first_word(text);
-    let mut i = 0;
-    while i < k {
-        at = next_word(text, at);
-        i += 1;
+    let mut rest = past_blanks(text);
+    for _i in 0..k {
+        rest = after_word(rest);
     }
-    at
+    rest
 }
 
 // Whether there is no word k.
+#[tactic(auto, using(crate::proofs::WordSteps::word_over))]
 pub(crate) fn no_word(text: &[u8], k: usize) -> bool
     ensures { result ≡ no_word text.now k }
 {
-    if word_start(text, k) < text.len() {
-        return false;
-    }
-    true
+    from_word(text, k).is_empty()
 }
 
 // Word k, as a part of the text.
+#[tactic(auto, using(crate::proofs::WordSteps::word_here))]
 pub fn word(text: &[u8], k: usize) -> &[u8]
     ensures { result.now ≡ word_of text.now k }
 {
-    word_at(text, word_start(text, k))
+    first_word(from_word(text, k))
 }

@@ -7,4 +7,4 @@ pub returns-then-wrong_line : goal.returns-then-wrong_line
 returns-then-wrong_line c = let r = code_wrong _ _ (sym c.if-wrong_line.ensures) in record { answer = r.0; stored = r.1 }
 
 pub returns : goal.returns
-returns c = let r = code_taken _ (sym c.if-wrong_line.ensures) c.put_code.ensures in record { answer = r.0; stored = r.1 }
+returns c = let r = code_taken _ (sym c.if-wrong_line.ensures) c.put_code.ensures.wrote in record { answer = r.0; stored = r.1 }
