@@ -1,12 +1,12 @@
 -- The lister's text follows from what opening gives, and longest_listing bytes are room for it. Assumes nothing.
-use Rattle.std.specs.Prelude.{◌≡◌, List, ℕ, ◌^◌, ◌≤◌, ◌<◌, length}
+use Rattle.std.specs.Prelude.{◌≡◌, List, ℕ, ◌^◌, ◌≤◌, ◌<◌, length, Ok}
 use Rattle.std.proofs.Common.{sym, ap, ⊎_elim, arith, length-take-le}
-use Rattle.directory.specs.declared.Opening.TheVariants.{Opened, Refused}
-use Rattle.directory.specs.Sizes.{most_codes}
+use Rattle.directory.specs.Sizes.{Header, most_codes}
 use Rattle.directory.specs.Kind.{HD}
 use Rattle.directory.proofs.RefusalLaws.{first-after}
 use Rattle.directory.specs.File.{header_in}
-use Rattle.directory.specs.Opening.{open_refusals, opened_unless, opening}
+use Rattle.directory.specs.Refusals.{refused}
+use Rattle.directory.specs.Opening.{open_refusals, opening}
 use Rattle.directory.proofs.OpeningLaws.{opening-opened}
 use Rattle.directory.proofs.ShowingLaws.{nothing-or-code, shown-length, shown_empty}
 use Rattle.directory.specs.Listing.{listed_line, refused_line, listing}
@@ -16,8 +16,8 @@ use Rattle.listing.proofs.TextLaws.{decimal-length, hex-length}
 use Rattle.listing.proofs.LineLaws.{listed_line-length, refused_line-length}
 
 pub listing_text : (f : List ℕ) → listing_of f ≡ text_of f (open_of f)
-unfolding listing_of listing open_of opening opened_unless lines show_of
-listing_text f = sym (first-after (text_of f) _ Refused (open_refusals _ (header_in f) f))
+unfolding listing_of listing open_of opening lines show_of
+listing_text f = sym (first-after (text_of f) _ refused (open_refusals _ (header_in f) f))
 
 -- ---- how long it is
 
@@ -38,6 +38,6 @@ refused_short number place m s = omega (arith, refused_line-length number place,
 pub counts : (size : ℕ) (text : List ℕ) → size ≤ length text → Counts size text
 counts size text h = (h, sym (length-take-le size text h))
 
-pub opened_few : (f : List ℕ) (n r v : ℕ) → open_of f ≡ Opened n r v → n ≤ most_codes
+pub opened_few : (f : List ℕ) (h : Header) → open_of f ≡ Ok h → h.n ≤ most_codes
 unfolding open_of
-opened_few f n r v e = ((opening-opened HD f n r v).0 e).1.framed.sizes.few
+opened_few f h e = ((opening-opened HD f h.n h.r h.v).0 e).1.framed.sizes.few

@@ -57,3 +57,6 @@ pub hex-length : (t : List ℕ) → length (hex t) ≡ 2 * length t
 unfolding hex
 hex-length [] = refl
 hex-length (b ∷ t) = omega (arith, hex-length t)
+
+-- what the goals of the code need
+pub ruleset lengths = (decimal-one, decimal_more_length, hex-length)

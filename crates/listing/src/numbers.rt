@@ -1,14 +1,17 @@
 // Numbers in decimal and codes in lowercase hex, in ASCII.
+// By hand, and no `Display`: each contract gives every byte, by `directory.specs.Listing`, and std's `fmt` ensures nothing that a proof can use.
 ghost use Rattle.std.specs.Prelude.{◌≡◌, [], ◌∷◌, ◌+◌, ◌/◌, ◌%◌, ◌<◌, ◌≤◌, length};
-ghost use Rattle.counting.specs.Wrote.{Wrote};
 ghost use Rattle.directory.specs.Listing.{digit as digitOf, decimal, hex};
+ghost use Rattle.storing.specs.Went.{RoomFor, Went};
 
-use storing::put_byte;
+use storing::Pen;
 
 const TEN: usize = 10;
 
 const SIXTEEN: usize = 16;
 
+// A digit in lowercase.
+#[tactic(auto, using(std::proofs::lemmas::Bool::Decides::nat_tests), unfolding(directory::specs::Listing::digit))]
 fn digit(d: usize) -> u8
     requires { d < 16 }
     ensures { result ≡ digitOf d }
@@ -20,43 +23,42 @@ fn digit(d: usize) -> u8
     }
 }
 
-pub fn put_digit(text: &mut [u8], at: usize, d: usize) -> usize
-    requires { (d < 16) × (at < length text.old) }
-    ensures { Wrote at (digitOf d ∷ []) text.old text.new result }
+pub fn put_digit(out: &mut Pen, d: usize)
+    requires { (d < 16) × RoomFor 1 out.old }
+    ensures { Went (digitOf d ∷ []) out.old out.new }
 {
-    put_byte(text, at, digit(d))
+    out.byte(digit(d));
 }
 
 // The digits before the last are those of x / 10.
-pub fn put_decimal(text: &mut [u8], at: usize, x: usize) -> usize
-    requires { at + length (decimal x) ≤ length text.old }
-    ensures { Wrote at (decimal x) text.old text.new result }
+#[tactic(auto, using(crate::proofs::TextLaws::lengths))]
+pub fn put_decimal(out: &mut Pen, x: usize)
+    requires { RoomFor (length (decimal x)) out.old }
+    ensures { Went (decimal x) out.old out.new }
 {
     if x < TEN {
-        return put_digit(text, at, x);
+        put_digit(out, x);
+    } else {
+        put_decimal(out, x / TEN);
+        put_digit(out, x % TEN);
     }
-    let last = put_decimal(text, at, x / TEN);
-    put_digit(text, last, x % TEN)
 }
 
-// A byte in two digits.
-fn put_pair(text: &mut [u8], at: usize, b: u8) -> usize
-    requires { at + 2 ≤ length text.old }
-    ensures { Wrote at (digitOf (b / 16) ∷ digitOf (b % 16) ∷ []) text.old text.new result }
+// A number in two digits of a base.
+pub fn put_pair(out: &mut Pen, x: usize, base: usize)
+    requires { (0 < base) × (base ≤ 16) × (x / base < 16) × RoomFor 2 out.old }
+    ensures { Went (digitOf (x / base) ∷ digitOf (x % base) ∷ []) out.old out.new }
 {
-    let second = put_digit(text, at, b as usize / SIXTEEN);
-    put_digit(text, second, b as usize % SIXTEEN)
+    put_digit(out, x / base);
+    put_digit(out, x % base);
 }
 
-pub fn put_hex(text: &mut [u8], at: usize, code: &[u8]) -> usize
-    requires { at + length (hex code.now) ≤ length text.old }
-    ensures { Wrote at (hex code.now) text.old text.new result }
+#[tactic(auto, using(crate::proofs::TextLaws::lengths))]
+pub fn put_hex(out: &mut Pen, code: &[u8])
+    requires { RoomFor (length (hex code.now)) out.old }
+    ensures { Went (hex code.now) out.old out.new }
 {
-    let mut to = at;
-    let mut i = 0;
-    while i < code.len() {
-        to = put_pair(text, to, code[i]);
-        i += 1;
+    for b in code {
+        put_pair(out, *b as usize, SIXTEEN);
     }
-    to
 }

@@ -1,11 +1,13 @@
 -- A few rows, computed as one theorem. Assumes nothing.
-use Rattle.std.specs.Prelude.{◌≡◌, refl, Bool, true, not, List, [], ◌∷◌, ◌++◌, ℕ, pos, negsuc}
+use Rattle.std.specs.Prelude.{◌≡◌, refl, Bool, true, not, List, [], ◌∷◌, ◌++◌, ℕ, pos, negsuc, Some, Ok}
 use Rattle.counting.specs.Below as Below
 use Rattle.counting.specs.Lists as Lists
 use Rattle.counting.specs.Lists.{same, every}
 use Rattle.directory.specs.Listing.{digit, digits, decimal, hex}
-use Rattle.sign.specs.declared.Last.TheVariants.{NeverHeard, Heard}
-use Rattle.sign.specs.declared.Answer.TheVariants.{Never, Fresh, Stale, Refused}
+use Rattle.directory.specs.declared.Reason.TheVariants.{EarlierNow}
+use Rattle.directory.specs.Refusals.{refused}
+use Rattle.sign.specs.declared.Answer.TheVariants.{Never, Fresh, Stale}
+use Rattle.sign.specs.Rules.{heard, never_heard}
 use Rattle.texts.specs.Codes.{in_hex}
 use Rattle.rows.specs.Filling.{blanks, filled}
 use Rattle.rows.specs.Values.{two_digits, three_digits, metres, level_text, age_text, value_text, column}
@@ -78,13 +80,13 @@ start = k9 ++ blanks 30
 pub row_says : List Bool
 row_says =
     -- fresh
-    same (row_text k9 (Heard (negsuc 119) 1000) (Fresh (negsuc 119)) 1090) (start ++ shallow ++ ninety ++ 0x20 ∷ 0x20 ∷ 0x66 ∷ 0x72 ∷ 0x65 ∷ 0x73 ∷ 0x68 ∷ 0x0A ∷ [])
+    same (row_text k9 (heard (negsuc 119) 1000) (Ok (Some (Fresh (negsuc 119)))) 1090) (start ++ shallow ++ ninety ++ 0x20 ∷ 0x20 ∷ 0x66 ∷ 0x72 ∷ 0x65 ∷ 0x73 ∷ 0x68 ∷ 0x0A ∷ [])
     -- stale
-    ∷ same (row_text k9 (Heard (negsuc 119) 1000) (Stale (negsuc 119) 90) 1090) (start ++ shallow ++ ninety ++ 0x20 ∷ 0x20 ∷ 0x73 ∷ 0x74 ∷ 0x61 ∷ 0x6C ∷ 0x65 ∷ 0x0A ∷ [])
+    ∷ same (row_text k9 (heard (negsuc 119) 1000) (Ok (Some (Stale (negsuc 119) 90))) 1090) (start ++ shallow ++ ninety ++ 0x20 ∷ 0x20 ∷ 0x73 ∷ 0x74 ∷ 0x61 ∷ 0x6C ∷ 0x65 ∷ 0x0A ∷ [])
     -- never
-    ∷ same (row_text k9 NeverHeard Never 1090) (start ++ none ++ no_age ++ 0x20 ∷ 0x20 ∷ 0x6E ∷ 0x65 ∷ 0x76 ∷ 0x65 ∷ 0x72 ∷ 0x0A ∷ [])
+    ∷ same (row_text k9 never_heard (Ok (Some Never)) 1090) (start ++ none ++ no_age ++ 0x20 ∷ 0x20 ∷ 0x6E ∷ 0x65 ∷ 0x76 ∷ 0x65 ∷ 0x72 ∷ 0x0A ∷ [])
     -- refused 19
-    ∷ same (row_text k9 (Heard (negsuc 119) 1000) (Refused 19 0) 999) (start ++ none ++ no_age ++ 0x20 ∷ 0x20 ∷ 0x72 ∷ 0x65 ∷ 0x66 ∷ 0x75 ∷ 0x73 ∷ 0x65 ∷ 0x64 ∷ 0x20 ∷ 0x31 ∷ 0x39 ∷ 0x0A ∷ [])
+    ∷ same (row_text k9 (heard (negsuc 119) 1000) (refused EarlierNow 0) 999) (start ++ none ++ no_age ++ 0x20 ∷ 0x20 ∷ 0x72 ∷ 0x65 ∷ 0x66 ∷ 0x75 ∷ 0x73 ∷ 0x65 ∷ 0x64 ∷ 0x20 ∷ 0x31 ∷ 0x39 ∷ 0x0A ∷ [])
     ∷ []
 
 pub a_few_rows : every (λ b. b) (level_says ++ age_says ++ code_says ++ row_says) ≡ true

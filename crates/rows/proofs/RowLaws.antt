@@ -1,68 +1,39 @@
 -- Codes and answers as they are shown, and how long they are. Assumes nothing.
-use Rattle.std.specs.Prelude.{◌≡◌, refl, ◌≢◌, Bool, true, false, ◌&&◌, List, ◌++◌, ℕ, ◌+◌, ◌-◌, ◌^◌, ◌≤◌, ◌<◌, eqb, ℤ, length, get_or}
-use Rattle.std.proofs.Math.Path.{sym, ap}
-use Rattle.std.proofs.Common.{◌∙◌, arith, length-append}
-use Rattle.std.proofs.Math.Bool.{not}
-use Rattle.std.proofs.Math.Dec.{ltb}
-use borrow.Author.Tests.{eq-eqb, ne_eqb, lt-ltb, le-ltb, le-leb, lt-leb}
-use Rattle.counting.proofs.TestLaws.{and_false, or_second, or_none}
+use Rattle.std.specs.Prelude.{◌≡◌, refl, Bool, true, false, not, List, ◌++◌, ℕ, ◌+◌, ◌-◌, ◌^◌, ◌≤◌, ◌<◌, ℤ, Some, length, get_or}
+use Rattle.std.proofs.Common.{sym, ap, ◌∙◌, zero-add, arith, length-append, MatchBool, le-leb}
+use Rattle.std.specs.List.{AllWithin, HoldsAt, range_with_len}
+use Rattle.std.proofs.lemmas.List.FromFn.{length-range_with_len, get_or-range_with_len}
+use Rattle.counting.specs.Below.{any}
 use Rattle.counting.proofs.SearchLaws.{any_has, any_none}
 use Rattle.directory.specs.Kind.{HD}
-use Rattle.directory.specs.Listing.{blank, decimal, hex}
+use Rattle.directory.specs.Listing.{decimal, hex}
 use Rattle.listing.proofs.TextLaws.{decimal-length, hex-length}
-use Rattle.sign.specs.declared.Last.{Last}
-use Rattle.sign.specs.declared.Last.TheVariants.{Heard}
-use Rattle.sign.specs.declared.Answer.{Answer}
+use Rattle.sign.specs.Rules.{Last, Asked, heard}
 use Rattle.texts.specs.Codes.{hex_sign, in_hex}
-use Rattle.rows.specs.declared.Seen.TheVariants.{Nothing, Report}
-use Rattle.rows.specs.Rows.{visible, lone, readable, plain, code_text, longest_code, tells, seen_of, refused_text, longest_word}
+use Rattle.rows.specs.Rows.{readable, plain, code_text, longest_code, tells, seen_of, refused_text, longest_word}
 
 -- ---- whether a code is shown as it stands
 
+below : (n i : ℕ) → i < n → get_or (range_with_len 0 n) i 0 ≡ i
+below n i l = get_or-range_with_len 0 n i 0 l ∙ zero-add i
+
+-- what a look at all numbers below n says: none of them fails, or one does
+pub all_pass : (n : ℕ) (test : ℕ → Bool) (r : Bool) → let l = range_with_len 0 n in MatchBool r (AllWithin (λ i. test i ≡ true) l 0 (length l)) ((k : ℕ) × (k < length l) × HoldsAt (λ i. test i ≡ false) l k) → r ≡ not (any n (λ i. not (test i)))
+all_pass n test true h =
+    let long = length-range_with_len 0 n in
+    sym (ap not (any_none n (λ i. not (test i)) (λ i l. ap not (rw (below n i l) at (h i 0 (omega arith) (omega arith))))))
+all_pass n test false h =
+    let l : h.0 < n = omega (arith, length-range_with_len 0 n, h.1) in
+    sym (ap not (any_has n (λ i. not (test i)) h.0 l (ap not (rw (below n h.0 l) at (h.2 0)))))
+
 module _ (code : List ℕ) where
-  abbrev hidden : ℕ → Bool
-  hidden i = not (readable code i)
-
-  -- a blank that stands between others
-  pub lone-first : (i : ℕ) → i ≡ 0 → false ≡ lone code i
-  unfolding lone
-  lone-first i e = rw e
-
-  pub lone-last : (i : ℕ) → length code ≤ i + 1 → false ≡ lone code i
-  unfolding lone
-  lone-last i h = sym (ap (λ (b : Bool). ltb 0 i && (b && not (eqb (get_or code (i - 1) 0) blank))) (le-ltb (i + 1) (length code) h) ∙ and_false (ltb 0 i))
-
-  pub lone_inner : (i : ℕ) → i ≢ 0 → i + 1 < length code → not (eqb (get_or code (i - 1) 0) blank) ≡ lone code i
-  unfolding lone
-  lone_inner i d h = rw (lt-ltb 0 i (omega arith), lt-ltb (i + 1) (length code) h)
-
-  module _ (i : ℕ) where
-    abbrev byte : ℕ
-    byte = get_or code i 0
-
-    pub readable_seen : visible byte ≡ true → true ≡ readable code i
-    unfolding readable
-    readable_seen t = rw t
-
-    pub readable-other : visible byte ≡ false → byte ≢ blank → false ≡ readable code i
-    unfolding readable
-    readable-other t d = rw (t, ne_eqb byte blank d)
-
-    pub readable-blank : visible byte ≡ false → byte ≡ blank → lone code i ≡ readable code i
-    unfolding readable
-    readable-blank t e = rw (t, eq-eqb byte blank e)
-
-  pub plain-hex : in_hex code ≡ true → false ≡ plain code
+  pub plain-hex : {h : Bool} → h ≡ in_hex code → h ≡ true → not h ≡ plain code
   unfolding plain
-  plain-hex t = rw t
+  plain-hex e t = rw (← e, t)
 
-  pub plain_other : (i : ℕ) → i < length code → readable code i ≡ false → false ≡ plain code
+  pub plain_all : {r : Bool} → in_hex code ≡ false → r ≡ not (any (length code) (λ i. not (readable code i))) → r ≡ plain code
   unfolding plain
-  plain_other i l t = sym (ap not (or_second (in_hex code) _ (any_has (length code) hidden i l (ap not t))))
-
-  pub plain_all : in_hex code ≡ false → ((i : ℕ) → i < length code → readable code i ≡ true) → true ≡ plain code
-  unfolding plain
-  plain_all t h = sym (ap not (or_none t (any_none (length code) hidden (λ i l. ap not (h i l)))))
+  plain_all t e = rw (e, t)
 
   -- ---- its text
 
@@ -81,6 +52,8 @@ module _ (code : List ℕ) where
       go true t = omega (arith, ap length (code-plain t))
       go false t = omega (arith, ap length (code-hex t), length-append hex_sign (hex code), hex-length code)
 
+pub ruleset coded = (code-plain, code-hex, hex-length)
+
 -- ---- the word of a refusal
 
 pub refused_length : (number : ℕ) → length (refused_text number) ≡ length (decimal number) + 8
@@ -92,15 +65,6 @@ refused_short number m = omega (arith, refused_length number, decimal-length 2 n
 
 -- ---- what is seen
 
-pub seen_other : {last : Last} {level : ℤ} {time : ℕ} (answer : Answer) (moment : ℕ) → last ≡ Heard level time → tells answer ≡ false → Nothing ≡ seen_of last answer moment
+pub seen_report : {last : Last} {level : ℤ} {time : ℕ} (answer : Asked) (moment : ℕ) → last ≡ heard level time → tells answer ≡ true → time ≤ moment → Some (record { level = level; age = moment - time }) ≡ seen_of last answer moment
 unfolding seen_of
-seen_other answer moment e t = rw (e, t)
-
-module _ {last : Last} {level : ℤ} {time : ℕ} (answer : Answer) (moment : ℕ) (e : last ≡ Heard level time) (t : tells answer ≡ true) where
-  pub seen_earlier : moment < time → Nothing ≡ seen_of last answer moment
-  unfolding seen_of
-  seen_earlier m = rw (e, t, lt-leb time moment m)
-
-  pub seen_report : time ≤ moment → Report level (moment - time) ≡ seen_of last answer moment
-  unfolding seen_of
-  seen_report m = rw (e, t, le-leb time moment m)
+seen_report {time = time} answer moment e t m = rw (e, t, le-leb time moment m)

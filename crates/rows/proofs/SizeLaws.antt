@@ -1,28 +1,28 @@
--- A level by its sign and its size. Assumes nothing.
-use Rattle.std.specs.Prelude.{◌≡◌, refl, true, false, ◌∷◌, ◌+◌, ◌<◌, ℤ, pos, negsuc, nat_abs}
-use Rattle.std.proofs.Common.{subst, arith, ltb-true, SFits, to_z-of_z}
-use Rattle.std.specs.Int.Signed.{mag, lt_z}
+-- A level as text, by its sign and its size. Assumes nothing.
+use Rattle.std.specs.Prelude.{◌≡◌, refl, true, false, ◌∷◌, ◌<◌, ℕ, ℤ, pos, negsuc, nat_abs}
+use Rattle.std.proofs.Common.{subst, sym, ap, ◌∙◌, arith, ltb-true, SFits, to_z, of_z, to_z-of_z}
+use Rattle.std.specs.Int.Signed.{lt_z}
 use Rattle.std.specs.Int.{w32}
 use Rattle.counting.proofs.TestLaws.{clash}
-use Rattle.sign.proofs.LevelLaws.{rd}
 use Rattle.rows.specs.Values.{minus_sign, metres, level_text}
 
--- below zero
-pub record Below (z : ℤ) : Type 0 where
-  pub size : mag z + 1 ≡ nat_abs z
-  pub text : level_text z ≡ minus_sign ∷ metres (nat_abs z)
-
-pub below : (z : ℤ) → SFits w32 z → lt_z (rd z) (pos 0) ≡ true → Below z
+below : (z : ℤ) → lt_z z (pos 0) ≡ true → level_text z ≡ minus_sign ∷ metres (nat_abs z)
 unfolding level_text
-below (pos n) f t = let h : n < 0 = ltb-true n 0 (subst (λ y. lt_z y (pos 0) ≡ true) (to_z-of_z {w = w32} f) t) in absurd (omega arith)
-below (negsuc k) f t = record { size = omega arith; text = refl }
+below (pos n) t = let h : n < 0 = ltb-true n 0 t in absurd (omega arith)
+below (negsuc k) t = refl
 
--- from zero on
-pub record Above (z : ℤ) : Type 0 where
-  pub size : mag z ≡ nat_abs z
-  pub text : level_text z ≡ metres (nat_abs z)
-
-pub above : (z : ℤ) → SFits w32 z → lt_z (rd z) (pos 0) ≡ false → Above z
+above : (z : ℤ) → lt_z z (pos 0) ≡ false → level_text z ≡ metres (nat_abs z)
 unfolding level_text
-above (pos n) f t = record { size = refl; text = refl }
-above (negsuc k) f t = absurd (clash refl (subst (λ y. lt_z y (pos 0) ≡ false) (to_z-of_z {w = w32} f) t))
+above (pos n) t = refl
+above (negsuc k) t = absurd (clash refl t)
+
+-- the same of a level that the code reads
+module _ {level : ℤ} {size : ℕ} (fits : SFits w32 level) (sized : size ≡ nat_abs (to_z w32 (of_z w32 level))) where
+  is : to_z w32 (of_z w32 level) ≡ level
+  is = to_z-of_z {w = w32} fits
+
+  pub text_below : lt_z (to_z w32 (of_z w32 level)) (pos 0) ≡ true → level_text level ≡ minus_sign ∷ metres size
+  text_below t = below level (subst (λ z. lt_z z (pos 0) ≡ true) is t) ∙ ap (λ x. minus_sign ∷ metres x) (sym (sized ∙ ap nat_abs is))
+
+  pub text_above : lt_z (to_z w32 (of_z w32 level)) (pos 0) ≡ false → level_text level ≡ metres size
+  text_above t = above level (subst (λ z. lt_z z (pos 0) ≡ false) is t) ∙ ap metres (sym (sized ∙ ap nat_abs is))

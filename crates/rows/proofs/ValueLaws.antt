@@ -2,6 +2,7 @@
 use Rattle.std.specs.Prelude.{◌≡◌, refl, ℕ, suc, ◌+◌, ◌/◌, ◌^◌, ◌≤◌, ◌<◌, ℤ, pos, negsuc, length}
 use Rattle.std.proofs.Common.{arith, length-append}
 use Rattle.std.specs.Int.Signed.{mag}
+use Rattle.std.proofs.lemmas.Int.{ints}
 use Rattle.directory.specs.Listing.{decimal}
 use Rattle.listing.proofs.TextLaws.{decimal-length}
 use Rattle.rows.specs.Values.{two_digits, three_digits, metres, level_text, age_text, longest_value}
@@ -30,3 +31,9 @@ level_short (negsuc k) m = omega (arith, metres-length (suc k), decimal-length 6
 
 pub age_short : (age : ℕ) → age < 2 ^ 32 → length (age_text age) ≤ longest_value
 age_short age m = omega (arith, age_length age, decimal-length 6 (age / 3600) (omega arith))
+
+-- ---- what the code's goals need
+
+pub ruleset lengths = (two-length, three-length, metres-length, age_length)
+
+pub ruleset values = (level_short, age_short, ints)

@@ -1,18 +1,16 @@
 -- The rows of the sign: a code, the level and the age of its line's last report, and a word. Assumes nothing.
-use Rattle.std.specs.Prelude.{Bool, true, false, not, ◌&&◌, ◌||◌, cond, List, [], ◌∷◌, ◌++◌, ℕ, ◌+◌, ◌-◌, eqb, ltb, leb, length, get_or}
+use Rattle.std.specs.Prelude.{Bool, true, false, not, ◌&&◌, ◌||◌, cond, List, [], ◌∷◌, ◌++◌, ℕ, ◌+◌, ◌-◌, eqb, ltb, leb, length, get_or, Option, Some, None, Ok, Err}
 use Rattle.counting.specs.Below.{any}
 use Rattle.directory.specs.Listing.{blank, decimal, hex}
-use Rattle.sign.specs.declared.Last.{Last}
-use Rattle.sign.specs.declared.Last.TheVariants.{NeverHeard, Heard}
-use Rattle.sign.specs.declared.Answer.{Answer}
-use Rattle.sign.specs.declared.Answer.TheVariants.{Never, Fresh, Stale, Unknown, Refused}
+use Rattle.directory.specs.Refusals.{number_of}
+use Rattle.sign.specs.declared.Answer.TheVariants.{Never, Fresh, Stale}
+use Rattle.sign.specs.Rules.{Last, Asked}
 use Rattle.texts.specs.Numbers.{between}
 use Rattle.texts.specs.Codes.{hex_sign, in_hex}
 use Rattle.rows.specs.declared.Side.TheVariants.{Right}
 use Rattle.rows.specs.declared.Value.{Value}
-use Rattle.rows.specs.declared.Value.TheVariants as value
+use Rattle.rows.specs.declared.Value.TheVariants.{Level, Age}
 use Rattle.rows.specs.declared.Seen.{Seen}
-use Rattle.rows.specs.declared.Seen.TheVariants as seen
 use Rattle.rows.specs.Filling.{filled}
 use Rattle.rows.specs.Values.{gap, column, longest_column}
 
@@ -47,17 +45,17 @@ code_column code = filled Right code_width (code_text code)
 -- ---- the last report
 
 -- there is something to show where the answer is fresh or stale
-abbrev pub tells : Answer → Bool
-tells Never = false
-tells (Fresh level) = true
-tells (Stale level age) = true
-tells Unknown = false
-tells (Refused number place) = false
+abbrev pub tells : Asked → Bool
+tells (Ok (Some Never)) = false
+tells (Ok (Some (Fresh level))) = true
+tells (Ok (Some (Stale level age))) = true
+tells (Ok None) = false
+tells (Err why) = false
 
 -- the level and the age of a line's last report at a moment
-unfoldable pub seen_of : Last → Answer → ℕ → Seen
-seen_of NeverHeard answer moment = seen.Nothing
-seen_of (Heard level time) answer moment = cond (tells answer && leb time moment) (seen.Report level (moment - time)) seen.Nothing
+unfoldable pub seen_of : Last → Asked → ℕ → Option Seen
+seen_of None answer moment = None
+seen_of (Some last) answer moment = cond (tells answer && leb last.time moment) (Some (record { level = last.level; age = moment - last.time })) None
 
 abbrev level_width : ℕ
 level_width = 9
@@ -65,12 +63,12 @@ level_width = 9
 abbrev age_width : ℕ
 age_width = 13
 
-unfoldable pub columns : Value → Value → List ℕ
+unfoldable pub columns : Option Value → Option Value → List ℕ
 columns level age = column level_width level ++ column age_width age
 
-unfoldable pub seen_text : Seen → List ℕ
-seen_text seen.Nothing = columns value.Nothing value.Nothing
-seen_text (seen.Report level age) = columns (value.Level level) (value.Age age)
+unfoldable pub seen_text : Option Seen → List ℕ
+seen_text None = columns None None
+seen_text (Some seen) = columns (Some (Level seen.level)) (Some (Age seen.age))
 
 -- ---- the word
 
@@ -93,19 +91,19 @@ refused_word = 0x72 ∷ 0x65 ∷ 0x66 ∷ 0x75 ∷ 0x73 ∷ 0x65 ∷ 0x64 ∷ bl
 unfoldable pub refused_text : ℕ → List ℕ
 refused_text number = refused_word ++ decimal number
 
-unfoldable pub word_text : Answer → List ℕ
-word_text Never = never_word
-word_text (Fresh level) = fresh_word
-word_text (Stale level age) = stale_word
-word_text Unknown = unknown_word
-word_text (Refused number place) = refused_text number
+unfoldable pub word_text : Asked → List ℕ
+word_text (Ok (Some Never)) = never_word
+word_text (Ok (Some (Fresh level))) = fresh_word
+word_text (Ok (Some (Stale level age))) = stale_word
+word_text (Ok None) = unknown_word
+word_text (Err why) = refused_text (number_of why.reason)
 
 -- ---- the row
 
 abbrev newline : ℕ
 newline = 0x0A
 
-unfoldable pub row_text : List ℕ → Last → Answer → ℕ → List ℕ
+unfoldable pub row_text : List ℕ → Last → Asked → ℕ → List ℕ
 row_text code last answer moment = code_column code ++ seen_text (seen_of last answer moment) ++ gap ++ word_text answer ++ newline ∷ []
 
 -- how long its parts are at most, for a code of at most 32 bytes: `0x` and 32 pairs of digits, two columns, two blanks, `refused ` and three digits, and a newline

@@ -1,9 +1,9 @@
 -- Levels and ages as text, and the columns that show them. Assumes nothing.
-use Rattle.std.specs.Prelude.{List, [], ◌∷◌, ◌++◌, ℕ, suc, ◌+◌, ◌/◌, ◌%◌, ℤ, pos, negsuc}
+use Rattle.std.specs.Prelude.{List, [], ◌∷◌, ◌++◌, ℕ, suc, ◌+◌, ◌/◌, ◌%◌, ℤ, pos, negsuc, Option, Some, None}
 use Rattle.directory.specs.Listing.{blank, digit, decimal}
 use Rattle.rows.specs.declared.Side.TheVariants.{Left}
 use Rattle.rows.specs.declared.Value.{Value}
-use Rattle.rows.specs.declared.Value.TheVariants.{Nothing, Level, Age}
+use Rattle.rows.specs.declared.Value.TheVariants.{Level, Age}
 use Rattle.rows.specs.Filling.{filled}
 
 -- ---- characters
@@ -49,14 +49,14 @@ unfoldable pub age_text : ℕ → List ℕ
 age_text age = decimal (age / 3600) ++ colon ∷ two_digits (age / 60 % 60) ++ colon ∷ two_digits (age % 60)
 
 -- `-` where there is nothing to show
-unfoldable pub value_text : Value → List ℕ
-value_text Nothing = minus_sign ∷ []
-value_text (Level level) = level_text level
-value_text (Age age) = age_text age
+unfoldable pub value_text : Option Value → List ℕ
+value_text None = minus_sign ∷ []
+value_text (Some (Level level)) = level_text level
+value_text (Some (Age age)) = age_text age
 
 -- ---- a column
 
-unfoldable pub column : ℕ → Value → List ℕ
+unfoldable pub column : ℕ → Option Value → List ℕ
 column width value = gap ++ filled Left width (value_text value)
 
 -- the longest value is `-2147483.648 m`, and no column is wider

@@ -1,60 +1,58 @@
 // What an answer lets a row show, and the word that a row ends with.
 ghost use Rattle.std.specs.Prelude.{◌≡◌, ◌+◌, ◌≤◌, length};
-ghost use Rattle.counting.specs.Wrote.{Wrote};
+ghost use Rattle.storing.specs.Went.{RoomFor, Went};
 ghost use Rattle.rows.specs.Rows.{tells as tellsOf, seen_of, refused_text, word_text, longest_word};
 
 use crate::Seen;
+use directory::Refused;
 use listing::put_decimal;
-use sign::{Answer, Last};
-use storing::put_bytes;
+use sign::{Answer, Reading};
+use storing::Pen;
 
 // Whether an answer says that there is a level to show.
-fn tells(answer: Answer) -> bool
+fn tells(answer: Result<Option<Answer>, Refused>) -> bool
     ensures { result ≡ tellsOf answer }
 {
-    match answer {
-        Answer::Fresh(_) => true,
-        Answer::Stale(_, _) => true,
-        Answer::Never => false,
-        Answer::Unknown => false,
-        Answer::Refused(_, _) => false,
-    }
+    matches!(answer, Ok(Some(Answer::Fresh(_) | Answer::Stale(_, _))))
 }
 
-// What is seen of a line at a moment.
-pub(crate) fn seen(last: Last, answer: Answer, moment: u32) -> Seen
+// What is seen of a line at a moment: its last reading, where an answer tells of one.
+#[tactic(auto, using(std::proofs::lemmas::Bool::Decides::nat_tests), unfolding(crate::specs::Rows::seen_of))]
+pub(crate) fn seen(
+    last: Option<Reading>,
+    answer: Result<Option<Answer>, Refused>,
+    moment: u32,
+) -> Option<Seen>
     ensures { result ≡ seen_of last answer moment }
 {
-    let Last::Heard(level, time) = last else {
-        return Seen::Nothing;
-    };
+    let Reading { level, time } = last?;
     if !tells(answer) {
-        return Seen::Nothing;
+        return None;
     }
-    if moment < time {
-        return Seen::Nothing;
-    }
-    Seen::Report(level, moment - time)
+    let age = moment.checked_sub(time)?;
+    Some(Seen { level, age })
 }
 
-fn put_refused(text: &mut [u8], at: usize, number: usize) -> usize
-    requires { at + length (refused_text number) ≤ length text.old }
-    ensures { Wrote at (refused_text number) text.old text.new result }
+#[tactic(auto, using(crate::proofs::RowLaws::refused_length), unfolding(crate::specs::Rows::refused_text))]
+fn put_refused(out: &mut Pen, number: usize)
+    requires { RoomFor (length (refused_text number)) out.old }
+    ensures { Went (refused_text number) out.old out.new }
 {
-    let a = put_bytes(text, at, b"refused ");
-    put_decimal(text, a, number)
+    out.bytes(b"refused ");
+    put_decimal(out, number);
 }
 
-pub(crate) fn put_word(text: &mut [u8], at: usize, answer: Answer) -> usize
-    requires { at + longest_word ≤ length text.old }
-    ensures written { Wrote at (word_text answer) text.old text.new result }
-    ensures fits { result ≤ at + longest_word }
+#[tactic(auto, unfolding(crate::specs::Rows::word_text))]
+pub(crate) fn put_word(out: &mut Pen, answer: Result<Option<Answer>, Refused>)
+    requires { RoomFor longest_word out.old }
+    ensures written { Went (word_text answer) out.old out.new }
+    ensures fits { out.new.at ≤ out.old.at + longest_word }
 {
     match answer {
-        Answer::Never => put_bytes(text, at, b"never"),
-        Answer::Fresh(_) => put_bytes(text, at, b"fresh"),
-        Answer::Stale(_, _) => put_bytes(text, at, b"stale"),
-        Answer::Unknown => put_bytes(text, at, b"unknown"),
-        Answer::Refused(number, _) => put_refused(text, at, number as usize),
+        Ok(Some(Answer::Never)) => out.bytes(b"never"),
+        Ok(Some(Answer::Fresh(_))) => out.bytes(b"fresh"),
+        Ok(Some(Answer::Stale(_, _))) => out.bytes(b"stale"),
+        Ok(None) => out.bytes(b"unknown"),
+        Err(why) => put_refused(out, why.reason.number() as usize),
     }
 }

@@ -1,26 +1,28 @@
 // Numbers of two and of three digits, zeros in front of them too.
-ghost use Rattle.std.specs.Prelude.{◌+◌, ◌<◌, ◌≤◌, length};
-ghost use Rattle.counting.specs.Wrote.{Wrote};
+ghost use Rattle.std.specs.Prelude.{◌<◌};
 ghost use Rattle.rows.specs.Values.{two_digits, three_digits};
+ghost use Rattle.storing.specs.Went.{RoomFor, Went};
 
-use listing::put_digit;
+use listing::{put_digit, put_pair};
+use storing::Pen;
 
 const TEN: usize = 10;
 
 const HUNDRED: usize = 100;
 
-pub(crate) fn put_two(text: &mut [u8], at: usize, x: usize) -> usize
-    requires { (x < 100) × (at + 2 ≤ length text.old) }
-    ensures { Wrote at (two_digits x) text.old text.new result }
+#[tactic(auto, unfolding(crate::specs::Values::two_digits))]
+pub(crate) fn put_two(out: &mut Pen, x: usize)
+    requires { (x < 100) × RoomFor 2 out.old }
+    ensures { Went (two_digits x) out.old out.new }
 {
-    let a = put_digit(text, at, x / TEN);
-    put_digit(text, a, x % TEN)
+    put_pair(out, x, TEN);
 }
 
-pub(crate) fn put_three(text: &mut [u8], at: usize, x: usize) -> usize
-    requires { (x < 1000) × (at + 3 ≤ length text.old) }
-    ensures { Wrote at (three_digits x) text.old text.new result }
+#[tactic(auto, unfolding(crate::specs::Values::three_digits))]
+pub(crate) fn put_three(out: &mut Pen, x: usize)
+    requires { (x < 1000) × RoomFor 3 out.old }
+    ensures { Went (three_digits x) out.old out.new }
 {
-    let a = put_digit(text, at, x / HUNDRED);
-    put_two(text, a, x % HUNDRED)
+    put_digit(out, x / HUNDRED);
+    put_two(out, x % HUNDRED);
 }

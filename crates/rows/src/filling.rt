@@ -1,50 +1,34 @@
 // A text filled with blanks to a width.
-ghost use Rattle.std.specs.Prelude.{◌≡◌, ◌+◌, ◌-◌, ◌≤◌, length};
-ghost use Rattle.counting.specs.Wrote.{Wrote};
+ghost use Rattle.std.specs.Prelude.{length};
 ghost use Rattle.rows.specs.Filling.{blanks, filled};
+ghost use Rattle.storing.specs.Went.{RoomFor, Went};
 
 use crate::Side;
-use storing::{put_byte, put_bytes};
+use storing::Pen;
 
-// How many columns are left of a width.
-fn left(width: usize, used: usize) -> usize
-    ensures { result ≡ width - used }
+fn put_blanks(out: &mut Pen, count: usize)
+    requires { RoomFor count out.old }
+    ensures { Went (blanks count) out.old out.new }
 {
-    if used < width { width - used } else { 0 }
+    let to = out.at + count;
+    out.buffer[out.at..to].fill(b' ');
+    out.at = to;
 }
 
-fn put_blanks(text: &mut [u8], at: usize, count: usize) -> usize
-    requires { at + count ≤ length text.old }
-    ensures { Wrote at (blanks count) text.old text.new result }
+#[tactic(auto, using(crate::proofs::FillingLaws::lengths))]
+pub(crate) fn put_filled(out: &mut Pen, side: Side, width: usize, field: &[u8])
+    requires { RoomFor (length (filled side width field.now)) out.old }
+    ensures { Went (filled side width field.now) out.old out.new }
 {
-    let mut to = at;
-    let mut i = 0;
-    while i < count {
-        to = put_byte(text, to, b' ');
-        i += 1;
-    }
-    to
-}
-
-pub(crate) fn put_filled(
-    text: &mut [u8],
-    at: usize,
-    side: Side,
-    width: usize,
-    field: &[u8],
-) -> usize
-    requires { at + length (filled side width field.now) ≤ length text.old }
-    ensures { Wrote at (filled side width field.now) text.old text.new result }
-{
-    let count = left(width, field.len());
+    let count = width.saturating_sub(field.len());
     match side {
         Side::Left => {
-            let a = put_blanks(text, at, count);
-            put_bytes(text, a, field)
+            put_blanks(out, count);
+            out.bytes(field);
         }
         Side::Right => {
-            let a = put_bytes(text, at, field);
-            put_blanks(text, a, count)
+            out.bytes(field);
+            put_blanks(out, count);
         }
     }
 }

@@ -9,7 +9,7 @@ mod answers; // answers.rt: what an answer lets a row show, and its word
 mod row; // row.rt: a whole row
 mod signs; // signs.rt: the whole sign
 
-pub use signs::{put_rows, sign_buffer};
+pub use signs::{LONGEST_SIGN, Sign, put_rows};
 
 // Where the blanks go that fill a text to a width.
 #[derive(Clone, Copy)]
@@ -18,17 +18,16 @@ pub enum Side {
     Right,
 }
 
-// What a column shows: nothing, a level in millimetres, or an age in seconds.
+// What a column shows: a level in millimetres, or an age in seconds.
 #[derive(Clone, Copy)]
 pub enum Value {
-    Nothing,
     Level(i32),
     Age(u32),
 }
 
-// What a row shows of a line's last report: nothing, or its level and its age.
+// What a row shows of a line's last report: its level and its age.
 #[derive(Clone, Copy)]
-pub enum Seen {
-    Nothing,
-    Report(i32, u32),
+pub struct Seen {
+    pub level: i32,
+    pub age: u32,
 }

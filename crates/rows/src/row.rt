@@ -1,7 +1,7 @@
 // A whole row.
 ghost use Rattle.std.specs.Prelude.{◌+◌, ◌≤◌, length};
-ghost use Rattle.counting.specs.Wrote.{Wrote};
 ghost use Rattle.directory.specs.Kind.{HD};
+ghost use Rattle.storing.specs.Went.{RoomFor, Went};
 ghost use Rattle.rows.specs.Values.{longest_column};
 ghost use Rattle.rows.specs.Rows.{columns, seen_text, row_text, longest_row};
 
@@ -9,50 +9,50 @@ use crate::answers::{put_word, seen};
 use crate::codes::put_code_column;
 use crate::values::put_column;
 use crate::{Seen, Value};
-use sign::{Answer, Last};
-use storing::{put_byte, put_bytes};
+use directory::Refused;
+use sign::{Answer, Reading};
+use storing::Pen;
 
 // The widths of the two columns.
 const LEVELS: usize = 9;
 
 const AGES: usize = 13;
 
-fn put_columns(text: &mut [u8], at: usize, level: Value, age: Value) -> usize
-    requires { at + longest_column + longest_column ≤ length text.old }
-    ensures written { Wrote at (columns level age) text.old text.new result }
-    ensures fits { result ≤ at + longest_column + longest_column }
+fn put_columns(out: &mut Pen, level: Option<Value>, age: Option<Value>)
+    requires { RoomFor (longest_column + longest_column) out.old }
+    ensures written { Went (columns level age) out.old out.new }
+    ensures fits { out.new.at ≤ out.old.at + longest_column + longest_column }
 {
-    let a = put_column(text, at, LEVELS, level);
-    put_column(text, a, AGES, age)
+    put_column(out, LEVELS, level);
+    put_column(out, AGES, age);
 }
 
-fn put_seen(text: &mut [u8], at: usize, seen: Seen) -> usize
-    requires { at + longest_column + longest_column ≤ length text.old }
-    ensures written { Wrote at (seen_text seen) text.old text.new result }
-    ensures fits { result ≤ at + longest_column + longest_column }
+#[tactic(auto, unfolding(crate::specs::Rows::seen_text))]
+fn put_seen(out: &mut Pen, seen: Option<Seen>)
+    requires { RoomFor (longest_column + longest_column) out.old }
+    ensures written { Went (seen_text seen) out.old out.new }
+    ensures fits { out.new.at ≤ out.old.at + longest_column + longest_column }
 {
-    match seen {
-        Seen::Nothing => put_columns(text, at, Value::Nothing, Value::Nothing),
-        Seen::Report(level, age) => put_columns(text, at, Value::Level(level), Value::Age(age)),
-    }
+    let level = seen.map(|seen| Value::Level(seen.level));
+    let age = seen.map(|seen| Value::Age(seen.age));
+    put_columns(out, level, age);
 }
 
-// The row of a code: its line's last report, what asking at a moment answers, and that moment.
+// The row of a code: its line's last reading, what asking at a moment answers, and that moment.
 pub(crate) fn put_row(
-    text: &mut [u8],
-    at: usize,
+    out: &mut Pen,
     code: &[u8],
-    last: Last,
-    answer: Answer,
+    last: Option<Reading>,
+    answer: Result<Option<Answer>, Refused>,
     moment: u32,
-) -> usize
-    requires { (length code.now ≤ HD.positions) × (at + longest_row ≤ length text.old) }
-    ensures written { Wrote at (row_text code.now last answer moment) text.old text.new result }
-    ensures fits { result ≤ at + longest_row }
+)
+    requires { (length code.now ≤ HD.positions) × RoomFor longest_row out.old }
+    ensures written { Went (row_text code.now last answer moment) out.old out.new }
+    ensures fits { out.new.at ≤ out.old.at + longest_row }
 {
-    let a = put_code_column(text, at, code);
-    let b = put_seen(text, a, seen(last, answer, moment));
-    let c = put_bytes(text, b, b"  ");
-    let d = put_word(text, c, answer);
-    put_byte(text, d, b'\n')
+    put_code_column(out, code);
+    put_seen(out, seen(last, answer, moment));
+    out.bytes(b"  ");
+    put_word(out, answer);
+    out.byte(b'\n');
 }

@@ -1,12 +1,11 @@
 -- What is printed, for readers: the rows of the lists that the reports of a text leave, from cleared ones on. So what the sign promises of any calls holds of what is shown. Assumes nothing.
-use Rattle.std.specs.Prelude.{◌≡◌, refl, true, List, [], ◌∷◌, ◌++◌, ℕ, zero, suc, ◌<◌}
+use Rattle.std.specs.Prelude.{◌≡◌, refl, true, List, [], ◌∷◌, ◌++◌, ℕ, zero, suc, ◌<◌, Option, Some, None, Ok}
 use Rattle.std.proofs.Common.{sym, ◌∙◌}
 use Rattle.std.proofs.Math.Path.{ap}
-use Rattle.directory.specs.declared.Opening.TheVariants as opening
+use Rattle.directory.specs.Sizes.{headed}
 use Rattle.directory.specs.Calls.{open_of, show_of}
 use Rattle.directory.proofs.EveryFile.{what_opens_has_its_header}
 use Rattle.texts.specs.declared.Report.{Report}
-use Rattle.texts.specs.declared.Report.TheVariants.{Is, Wrong}
 use Rattle.texts.specs.Lines.{line}
 use Rattle.texts.specs.Words.{word}
 use Rattle.texts.specs.Codes.{kept}
@@ -26,10 +25,10 @@ unfolding after
 after_both f S [] more = refl
 after_both f S (k ∷ ks) more = after_both f (sign_next f S k) ks more
 
-read_calls : (f code : List ℕ) (report : Report) (S : Lists) → after_read f code report S ≡ after (sign f) S (calls_read code report)
+read_calls : (f code : List ℕ) (report : Option Report) (S : Lists) → after_read f code report S ≡ after (sign f) S (calls_read code report)
 unfolding after_read calls_read after sign_next
-read_calls f code (Is size level time) S = refl
-read_calls f code Wrong S = refl
+read_calls f code (Some r) S = refl
+read_calls f code None S = refl
 
 lines_calls : (f text : List ℕ) (k : ℕ) (S : Lists) → after_lines f text k S ≡ after (sign f) S (calls_to text k)
 unfolding after_lines after_line calls_to after
@@ -42,7 +41,7 @@ lines_calls f text (suc k) S =
 
 -- ---- a file that opens, and any text
 
-module _ (f : List ℕ) (n r v : ℕ) (o : open_of f ≡ opening.Opened n r v) (text : List ℕ) where
+module _ (f : List ℕ) (n r v : ℕ) (o : open_of f ≡ Ok (headed n r v)) (text : List ℕ) where
   -- the lists when all reports are taken
   abbrev pub left : Lists
   left = after_text f text (cleared n)

@@ -1,8 +1,7 @@
 -- The lists of the sign after the reports of a text. Assumes nothing.
-use Rattle.std.specs.Prelude.{List, [], ◌∷◌, ◌++◌, ℕ, zero, suc, length}
+use Rattle.std.specs.Prelude.{List, [], ◌∷◌, ◌++◌, ℕ, zero, suc, length, Option, Some, None}
 use Rattle.counting.specs.Below.{lowest}
 use Rattle.texts.specs.declared.Report.{Report}
-use Rattle.texts.specs.declared.Report.TheVariants.{Is, Wrong}
 use Rattle.texts.specs.Lines.{line, no_line}
 use Rattle.texts.specs.Words.{word}
 use Rattle.texts.specs.Codes.{kept}
@@ -14,9 +13,9 @@ use Rattle.sign.specs.Trace.{Call}
 use Rattle.sign.specs.Trace.Call.{report}
 
 -- a report of a code is brought to the sign of a file f, and a line that is no report changes nothing
-unfoldable pub after_read : List ℕ → List ℕ → Report → Lists → Lists
-after_read f code (Is size level time) S = after_report f (a_report code level time) S
-after_read f code Wrong S = S
+unfoldable pub after_read : List ℕ → List ℕ → Option Report → Lists → Lists
+after_read f code (Some r) S = after_report f (a_report code r.level r.time) S
+after_read f code None S = S
 
 -- the code is that of the line's first word
 unfoldable pub after_line : List ℕ → List ℕ → Lists → Lists
@@ -37,9 +36,9 @@ after_text f text S = after_lines f text (lines_in text) S
 
 -- ---- the same as calls of the sign
 
-unfoldable pub calls_read : List ℕ → Report → List Call
-calls_read code (Is size level time) = report (a_report code level time) ∷ []
-calls_read code Wrong = []
+unfoldable pub calls_read : List ℕ → Option Report → List Call
+calls_read code (Some r) = report (a_report code r.level r.time) ∷ []
+calls_read code None = []
 
 unfoldable pub calls_to : List ℕ → ℕ → List Call
 calls_to text zero = []

@@ -1,11 +1,12 @@
 // The lists of levels and times, cleared: four bytes a place, the low one first, and one place a line.
+// The two lists stay two parameters: `sign::report` takes them so, as C lends them, and a struct of two `&mut` would have to say in each contract that both keep their reference and their length.
 ghost use Rattle.std.specs.Prelude.{◌≡◌, ◌≤◌, length};
 ghost use Rattle.counting.specs.Lists.{each};
 ghost use Rattle.counting.specs.Wrote.{Wrote};
 ghost use Rattle.sign.specs.Places.{place_bytes, place_at};
 ghost use Rattle.sign.specs.Keeping.{lists, cleared};
 
-use storing::put_bytes;
+use storing::Pen;
 
 // The bytes of 1,024 places.
 pub const MOST_BYTES: usize = 4_096;
@@ -15,11 +16,12 @@ fn fill(list: &mut [u8], n: usize, place: &[u8])
     requires { (length place.now ≡ place_bytes) × (place_at n ≤ length list.old) }
     ensures { Wrote 0 (each n (λ i. place.now)) list.old list.new (place_at n) }
 {
-    let mut at = 0;
-    let mut i = 0;
-    while i < n {
-        at = put_bytes(list, at, place);
-        i += 1;
+    let mut out = Pen {
+        buffer: list,
+        at: 0,
+    };
+    for _ in 0..n {
+        out.bytes(place);
     }
 }
 

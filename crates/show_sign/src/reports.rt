@@ -1,14 +1,15 @@
 // The reports of a text, taken one after the other.
+// The two lists stay two parameters: `sign::report` takes them so, as C lends them, and a struct of two `&mut` would have to say in each contract that both keep their reference and their length.
 ghost use Rattle.std.specs.Prelude.{◌≡◌};
 ghost use Rattle.sign.specs.Keeping.{lists};
 ghost use Rattle.show_sign.specs.Taken.{after_line, after_text};
 
 use crate::words::{tell_reported, tell_wrong};
-use beginnings::first_bytes;
+use beginnings::first;
 use sign::report;
 use std::rt::Env;
 use telling::Tell;
-use texts::{MOST_KEPT, Report, line_at, next_line, read_report};
+use texts::{MOST_KEPT, after_line, first_line, read_report};
 
 // Line k: a report, or none. What is not accepted is told, and changes nothing.
 fn take_report(
@@ -22,11 +23,18 @@ fn take_report(
     ensures { lists levels.new times.new ≡ after_line file.now line.now (lists levels.old times.old) }
 {
     let mut code = [0u8; MOST_KEPT];
-    let Report::Is(size, level, time) = read_report(line, &mut code) else {
+    let Some(read) = read_report(line, &mut code) else {
         tell_wrong(rt, line, k);
         return;
     };
-    let reported = report(file, first_bytes(&code, size), level, time, levels, times);
+    let reported = report(
+        file,
+        first(&code, read.size),
+        read.level,
+        read.time,
+        levels,
+        times,
+    );
     tell_reported(rt, line, k, reported);
 }
 
@@ -40,12 +48,13 @@ pub fn take_reports(
 )
     ensures { lists levels.new times.new ≡ after_text file.now text.now (lists levels.old times.old) }
 {
-    let mut at = 0;
-    let mut k = 0;
-    while at < text.len() {
-        let line = line_at(text, at);
-        at = next_line(text, at);
-        take_report(rt, file, line, k, levels, times);
-        k += 1;
+    let mut rest = text;
+    // No text has more lines than bytes.
+    for k in 0..text.len() {
+        if rest.is_empty() {
+            return;
+        }
+        take_report(rt, file, first_line(rest), k, levels, times);
+        rest = after_line(rest);
     }
 }

@@ -1,21 +1,23 @@
 // What is wrong with a report, with the limit or with the file.
 use crate::arguments::{FILE, REPORTS};
-use sign::{EARLIER_TIME, Reported, WRONG_LEVEL};
+use directory::{Reason, Refused};
 use std::rt::Env;
-use telling::{Tell, refused, say, say_argument, say_line, say_number};
+use telling::{Tell, Told, refused, say, say_argument, say_line, say_text};
 
 // A file that does not open.
-pub fn tell_file(rt: &(impl Env + Tell), number: u8, place: usize) {
+pub fn tell_file(rt: &(impl Env + Tell), why: Refused) -> Told {
     say_argument(rt, FILE);
-    refused(rt, number, place);
+    refused(rt, why);
+    Told
 }
 
 // A limit that asking refuses.
-pub fn tell_limit(rt: &impl Tell, limit: u32, number: u8, place: usize) {
+pub fn tell_limit(rt: &impl Tell, limit: u32, why: Refused) -> Told {
     say(rt, b"LIMIT is ");
-    say_number(rt, limit as usize);
+    say_text(rt, limit);
     say(rt, b"; it must be 1 to 86400");
-    refused(rt, number, place);
+    refused(rt, why);
+    Told
 }
 
 // Line k of the reports, which is none.
@@ -34,21 +36,26 @@ fn tell_unknown(rt: &(impl Env + Tell), line: &[u8], k: usize) {
 }
 
 // Line k, a report that is refused.
-fn tell_refused(rt: &(impl Env + Tell), line: &[u8], k: usize, number: u8, place: usize) {
+fn tell_refused(rt: &(impl Env + Tell), line: &[u8], k: usize, why: Refused) {
     say_line(rt, REPORTS, k, line);
-    match number {
-        WRONG_LEVEL => say(rt, b": the level is not -20000 to 20000"),
-        EARLIER_TIME => say(rt, b": its time is before the last report of its line"),
+    match why.reason {
+        Reason::WrongLevel => say(rt, b": the level is not -20000 to 20000"),
+        Reason::EarlierTime => say(rt, b": its time is before the last report of its line"),
         _ => (),
     }
-    refused(rt, number, place);
+    refused(rt, why);
 }
 
 // What became of the report in line k, unless it was accepted.
-pub fn tell_reported(rt: &(impl Env + Tell), line: &[u8], k: usize, reported: Reported) {
+pub fn tell_reported(
+    rt: &(impl Env + Tell),
+    line: &[u8],
+    k: usize,
+    reported: Result<Option<usize>, Refused>,
+) {
     match reported {
-        Reported::Accepted(_) => (),
-        Reported::Unknown => tell_unknown(rt, line, k),
-        Reported::Refused(number, place) => tell_refused(rt, line, k, number, place),
+        Ok(Some(_)) => (),
+        Ok(None) => tell_unknown(rt, line, k),
+        Err(why) => tell_refused(rt, line, k, why),
     }
 }

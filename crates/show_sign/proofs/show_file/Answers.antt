@@ -3,5 +3,5 @@ use Rattle.std.proofs.Common.{sym}
 use Rattle.listing.proofs.ListingLaws.{opened_few}
 use Rattle.show_sign.proofs.show_file.Goals as goal
 
-pub lend-requires : goal.lend-requires
-lend-requires g c = opened_few _ _ _ _ (sym c.in-Opened.ensures.given)
+pub invariant_of-asked : goal.invariant_of-asked
+invariant_of-asked g c = record { few = opened_few _ _ (sym c.in-Ok.ensures.given) }

@@ -1,19 +1,21 @@
 -- `listing::numbers::put_hex` meets its contract: the goals that the check leaves open.
-use Rattle.std.proofs.Common.{arith}
-use Rattle.counting.proofs.WroteLaws.{wrote_none}
+use Rattle.std.proofs.Common.{arith, take, length-take-le}
 use Rattle.directory.specs.Listing.{hex}
+use Rattle.storing.proofs.WentLaws.{went_none}
 use Rattle.listing.proofs.TextLaws.{hex-length}
-use Rattle.listing.proofs.TextSteps.{wrote_hex-next}
+use Rattle.listing.proofs.TextSteps.{went_hex-next}
 use Rattle.listing.proofs.numbers.put_hex.Goals as goal
 
-pub loop-i-init : goal.loop-i-init
+pub loop-b-init : goal.loop-b-init
 unfolding hex
-loop-i-init c = (omega arith, wrote_none _ _, omega arith)
+loop-b-init c = went_none _
 
-pub put_pair-to-requires : goal.put_pair-to-requires
-put_pair-to-requires c = omega (arith, hex-length c.args.code.now)
+pub loop-b-preserved : goal.loop-b-preserved
+loop-b-preserved c = went_hex-next _ c.loop-b.b-index (omega arith) c.loop-b.invariant c.put_pair.ensures
 
-pub loop-i-preserved : goal.loop-i-preserved
-loop-i-preserved c =
-    let v = c.loop-i in
-    (omega arith, wrote_hex-next _ v.i (omega arith) v.invariant.1 c.put_pair-to.ensures, omega arith)
+-- the bytes so far have taken two digits each
+pub put_pair-requires : goal.put_pair-requires
+put_pair-requires c =
+    let code = c.args.code.now in
+    let i = c.loop-b.b-index in
+    (omega arith, omega arith, omega arith, omega (arith, hex-length code, hex-length (take i code), length-take-le i code (omega arith)))

@@ -1,13 +1,15 @@
 -- `rows::codes::plain` meets its contract: the goals that the check leaves open.
-use Rattle.std.proofs.Common.{arith, sym, ◌∙◌}
-use Rattle.rows.proofs.RowLaws.{plain-hex, plain_other, plain_all}
+use Rattle.std.proofs.Common.{rules, tests, true, false, ◌≡◌, length, arith}
+use Rattle.std.proofs.lemmas.Iterator.{cases_from_all, YieldsList-from_range}
+use Rattle.rows.specs.Rows.{readable}
+use Rattle.rows.proofs.RowLaws.{all_pass, plain-hex, plain_all}
 use Rattle.rows.proofs.codes.plain.Goals as goal
 
-pub returns-then-in_hex : goal.returns-then-in_hex
-returns-then-in_hex c = plain-hex _ (sym c.in_hex.ensures ∙ c.if-in_hex.true)
+pub returns-then-not-in_hex : goal.returns-then-not-in_hex
+returns-then-not-in_hex c =
+    let code = c.args.code.now in
+    plain_all code (search rules) (all_pass _ (readable code) _
+    (cases_from_all _ _ _ (λ i. readable code i ≡ true) (λ i. readable code i ≡ false) c.all.ensures.ran (YieldsList-from_range 0 (length code) (length code) (cc) (omega arith)) (λ x q k. search (rules, tests)) (λ x q k. search (rules, tests))))
 
-pub returns-then-not-readable : goal.returns-then-not-readable
-returns-then-not-readable c = plain_other _ c.loop-i.i (omega arith) (sym c.readable.ensures ∙ c.if-not-readable.true)
-
-pub returns : goal.returns
-returns c = plain_all _ (sym c.in_hex.ensures ∙ c.if-in_hex.false) (λ k m. c.loop-i.invariant.0 k (omega arith))
+pub returns-else-not-in_hex : goal.returns-else-not-in_hex
+returns-else-not-in_hex c = plain-hex _ c.in_hex.ensures c.if-not-in_hex.false

@@ -1,13 +1,12 @@
--- `rows::signs::put_rows`. The invariant: the rows of the first `line` lines are written, and none is longer than the longest. The measure is what is left of n.
-use Rattle.std.proofs.Common.{◌*◌, ◌-◌, ◌≤◌}
-use Rattle.counting.specs.Wrote.{Wrote}
+-- `rows::signs::put_rows`. The invariant: the rows of the lines before `line` are written, and none is longer than the longest.
+use Rattle.std.proofs.Common.{◌*◌, ◌≤◌}
 use Rattle.sign.specs.Keeping.{lists}
+use Rattle.storing.specs.Went.{Went}
 use Rattle.rows.specs.Rows.{longest_row}
 use Rattle.rows.specs.Signs.{sign_text}
 use Rattle.rows.proofs.signs.put_rows.Given as goal
 
 abbrev pub invariant-loop-line : goal.invariant-loop-line
-invariant-loop-line l = Wrote 0 (sign_text l.file l.line l.moment l.limit (lists l.levels l.times)) l.initial.text l.text l.to × (l.line ≤ l.n) × (l.to ≤ longest_row * l.line)
-
-abbrev pub decreases-loop-line : goal.decreases-loop-line
-decreases-loop-line l = l.n - l.line
+invariant-loop-line l =
+    let s = l.sign in
+    record { written : Went (sign_text s.file.now l.line s.moment s.limit (lists s.levels.now s.times.now)) l.initial.out l.out; short : l.out.at ≤ longest_row * l.line }

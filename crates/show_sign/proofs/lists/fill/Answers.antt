@@ -1,10 +1,23 @@
--- One place more is written after the first i. Assumes nothing.
-use Rattle.std.proofs.Common.{arith}
-use Rattle.counting.proofs.WroteLaws.{wrote_each_none, wrote_each-next}
+-- One place more is written after the first ones, and in the end all are. Assumes nothing.
+use Rattle.std.proofs.Common.{rules, arith, ◌≡◌}
+use Rattle.counting.proofs.EachLaws.{length-each}
+use Rattle.counting.proofs.WroteLaws.{wrote_moved}
+use Rattle.storing.proofs.WentLaws.{went_each_none, went_each-next}
+use Rattle.sign.specs.Places.{place_bytes, place_at}
 use Rattle.show_sign.proofs.lists.fill.Goals as goal
 
-pub loop-i-init : goal.loop-i-init
-loop-i-init c = (wrote_each_none _ _ _, omega arith, omega arith)
+pub loop-init : goal.loop-init
+loop-init c = went_each_none _ _
 
-pub loop-i-preserved : goal.loop-i-preserved
-loop-i-preserved c = (wrote_each-next c.loop-i.i _ c.loop-i.invariant.0 c.put_bytes-at.ensures, omega arith, omega arith)
+pub loop-preserved : goal.loop-preserved
+loop-preserved c = went_each-next c.loop.counter _ c.loop.invariant c.bytes.ensures
+
+pub bytes-requires : goal.bytes-requires
+bytes-requires c = omega (arith, length-each place_bytes c.loop.counter (λ j. c.args.place.now) (λ j l. c.requires.0))
+
+pub returns : goal.returns
+returns c =
+    let all : c.args.n ≡ c.loop.counter = omega arith in
+    let same = c.loop.invariant.same_buffer in
+    let to : place_at c.args.n ≡ c.loop.out.at = omega (arith, length-each place_bytes c.loop.counter (λ j. c.args.place.now) (λ j l. c.requires.0)) in
+    wrote_moved {n = c.loop.out.buffer.now} (search rules) to (rw all c.loop.invariant.wrote)

@@ -7,5 +7,6 @@ pub returns-in_default : goal.returns-in_default
 returns-in_default g c = line_wrong _ _ _ c.in_default.ensures.answer
 
 pub returns : goal.returns
-returns g c = line_taken _ _ _ c.in-Is.ensures.answer (c.first_bytes.ensures ∙ code_taken _ c.in-Is.ensures.answer c.in-Is.ensures.stored (omega arith))
-    (to_z-of_z {w = w32} {z = c.in-Is.level} (search rules)) c.report-reported.ensures.stored
+returns g c =
+    let e = c.in-Some.ensures in
+    line_taken _ _ _ e.answer (c.first.ensures ∙ code_taken _ e.answer e.stored (omega arith)) (to_z-of_z {w = w32} {z = c.in-Some.read.level} (search rules)) c.report-reported.ensures.stored
