@@ -1,17 +1,15 @@
 // Finds the line of a code in a directory file: find_line FILE CODE. A CODE that starts with 0x is in hex.
 #![tactic(auto)]
 
-use beginnings::first_bytes;
-use directory::{Found, Opening};
-use files::{Got, LONGEST_FILE, read_argument};
+use beginnings::first;
+use files::{LONGEST_FILE, read_argument};
 use reader::{lookup, open};
-use std::io;
 use std::rt::Env;
 use telling::{
     LONGEST_ARGUMENT, Tell, argument, argument_count, refused, say, say_argument, say_bytes,
     say_failed,
 };
-use texts::{Code, MOST_KEPT, read_code};
+use texts::{MOST_KEPT, read_code};
 
 // How many arguments there are, with the program's own name, and the place of each.
 const ARGUMENTS: usize = 3;
@@ -20,21 +18,13 @@ const FILE: usize = 1;
 
 const CODE: usize = 2;
 
-fn print_line(rt: &impl Print, line: usize) -> io::Result<()> {
-    rt.println(line)
-}
-
-fn tell_code(rt: &impl Tell, number: u8, place: usize) {
-    say(rt, b"CODE");
-    refused(rt, number, place);
-}
-
 fn look_up(rt: &(impl Print + Tell), file: &[u8], code: &[u8]) {
     let printed = match lookup(file, code) {
-        Found::At(line) => print_line(rt, line),
-        Found::Unknown => rt.write_all(b"unknown\n"),
-        Found::Refused(number, place) => {
-            tell_code(rt, number, place);
+        Ok(Some(line)) => rt.println(line),
+        Ok(None) => rt.println("unknown"),
+        Err(refusal) => {
+            say(rt, b"CODE");
+            refused(rt, refusal);
             Ok(())
         }
     };
@@ -45,14 +35,14 @@ fn look_up(rt: &(impl Print + Tell), file: &[u8], code: &[u8]) {
 
 // Looks up what CODE stands for.
 fn find_code(rt: &(impl Env + Print + Tell), file: &[u8]) {
-    let mut word = [0u8; LONGEST_ARGUMENT];
-    let length = argument(rt, CODE, &mut word);
+    let mut buffer = [0u8; LONGEST_ARGUMENT];
+    let word = argument(rt, CODE, &mut buffer);
     let mut code = [0u8; MOST_KEPT];
-    match read_code(&word[..length], &mut code) {
-        Code::Taken(size) => look_up(rt, file, first_bytes(&code, size)),
-        Code::Wrong => {
+    match read_code(word, &mut code) {
+        Some(size) => look_up(rt, file, first(&code, size)),
+        None => {
             say(rt, b"CODE is ");
-            say_bytes(rt, &word[..length]);
+            say_bytes(rt, word);
             say(
                 rt,
                 b", which is not hex: after 0x come pairs of the digits 0 to 9 and a to f\n",
@@ -64,10 +54,10 @@ fn find_code(rt: &(impl Env + Print + Tell), file: &[u8]) {
 // A file that does not open gives no lines.
 fn find_in(rt: &(impl Env + Print + Tell), file: &[u8]) {
     match open(file) {
-        Opening::Opened(_, _, _) => find_code(rt, file),
-        Opening::Refused(number, place) => {
+        Ok(_) => find_code(rt, file),
+        Err(refusal) => {
             say_argument(rt, FILE);
-            refused(rt, number, place);
+            refused(rt, refusal);
         }
     }
 }
@@ -77,9 +67,8 @@ fn main(rt: HostRuntime) {
         say(&rt, b"usage: find_line FILE CODE\n");
         return;
     }
-    let mut file = [0u8; LONGEST_FILE];
-    let Got::Bytes(length) = read_argument(&rt, FILE, &mut file) else {
-        return;
-    };
-    find_in(&rt, first_bytes(&file, length));
+    let mut buffer = [0u8; LONGEST_FILE];
+    if let Ok(file) = read_argument(&rt, FILE, &mut buffer) {
+        find_in(&rt, file);
+    }
 }

@@ -1,5 +1,4 @@
-// What the arguments are, and room for the texts that they name.
-ghost use Rattle.std.specs.Prelude.{◌≡◌, length};
+// What the arguments are, and what they ask for.
 
 // How many there are, with the program's own name, and the place of each.
 pub const ARGUMENTS: usize = 6;
@@ -21,11 +20,13 @@ pub const MOST_SIZE: u32 = 65_535;
 pub const LONGEST_TEXT: usize = 71_750;
 
 // One byte more, which a longer text fills.
-const TEXT_ROOM: usize = 71_751;
+pub const TEXT_ROOM: usize = 71_751;
 
-// Zeros, room for a text. The `ensures` gives only the length, which lending the array as a slice needs.
-pub fn text_buffer() -> [u8; TEXT_ROOM]
-    ensures { 71751 ≡ length result }
-{
-    [0; TEXT_ROOM]
+// A directory of the codes and the weights of two texts, with its sizes.
+#[derive(Clone, Copy)]
+pub struct Asked<'a> {
+    pub codes: &'a [u8],
+    pub weights: &'a [u8],
+    pub r: u32,
+    pub v: u32,
 }

@@ -1,202 +1,88 @@
-// What vectors ask for: changes of what is held, and calls.
-use crate::answers::{
-    write_bad, write_built, write_found, write_length, write_listing, write_opening, write_refusal,
-    write_shown,
-};
-use crate::digits::NO_DIGIT;
-use crate::held::{beginning, count_up, first_of, resize};
-use crate::reading::Trial;
-use crate::signs::{call_sign, change_lists};
-use crate::sums::sums_of;
-
-// The largest number of one byte.
-const MOST_NUMBER: u64 = 255;
-
-// More fields than any vector has that has a certain number of them.
-const NO_VECTOR: usize = 4;
-
-// How many fields a vector has after its letter.
-fn fields(letter: u8) -> usize {
-    match letter {
-        b'O' | b'H' | b'T' | b'D' => 0,
-        b'C' | b'F' | b'Z' | b'S' | b'G' | b'K' | b'V' | b'U' => 1,
-        b'P' | b'X' | b'Y' => 2,
-        b'N' | b'B' | b'A' | b'Q' => 3,
-        _ => NO_VECTOR,
-    }
-}
-
-// Whether a vector has as many fields as it must. The empty code and the empty run have none; lists have any number.
-fn has_fields(letter: u8, blanks: usize) -> bool {
-    match letter {
-        b'L' | b'R' => blanks <= 1,
-        b'E' | b'W' => true,
-        _ => blanks == fields(letter),
-    }
-}
-
-// Whether a vector was read as it has to be.
-fn whole(trial: Trial) -> bool {
-    if trial.bad {
-        return false;
-    }
-    if trial.high != NO_DIGIT {
-        return false;
-    }
-    has_fields(trial.letter, trial.blanks)
-}
-
-// Makes the bytes count up, if the first fits a byte.
-fn colour(rt: &impl Print, length: usize, wanted: u64, bytes: &mut [u8]) {
-    if MOST_NUMBER < wanted {
-        write_bad(rt);
-        return;
-    }
-    count_up(bytes, wanted as u8, length);
-}
-
-// What a refusal number means, if it fits a byte.
-fn refusal(rt: &impl Print, wanted: u64) {
-    if MOST_NUMBER < wanted {
-        write_bad(rt);
-        return;
-    }
-    let number = wanted as u8;
-    write_refusal(rt, reader::group_of(number), reader::meaning_of(number));
-}
-
-// The call that a vector asks for. P, X and Y ask for none: their bytes are in the file and the lists already.
-fn call(rt: &impl Print, trial: Trial, file: &[u8], code: &[u8]) {
-    let letter = trial.letter;
-    match letter {
-        b'O' => write_opening(rt, reader::open(file)),
-        b'H' => write_opening(rt, reader::header(file)),
-        b'L' => write_found(rt, reader::lookup(file, beginning(code, trial.count))),
-        b'S' => write_shown(rt, reader::show(file, trial.last as usize)),
-        b'T' => write_listing(rt, file),
-        b'D' => write_shown(rt, file),
-        b'N' => write_length(
-            rt,
-            reader::length(
-                trial.first as usize,
-                trial.second as usize,
-                trial.last as usize,
-            ),
-        ),
-        b'G' => refusal(rt, trial.last),
-        _ => (),
-    }
-}
-
-// A change of what is held. The bytes of the run, the ends and the weights are in their places already.
-fn change(rt: &impl Print, mut trial: Trial, file: &mut [u8], run: &mut [u8]) -> Trial {
-    let letter = trial.letter;
-    match letter {
-        b'C' => trial.length = resize(rt, trial.length, trial.last, file),
-        b'F' => colour(rt, trial.length, trial.last, file),
-        b'R' => trial.run = trial.count,
-        b'Z' => trial.run = resize(rt, trial.run, trial.last, run),
-        b'E' => trial.ends = trial.blanks,
-        b'W' => trial.weights = trial.blanks,
-        _ => (),
-    }
-    trial
-}
-
-// The build that a vector asks for, in all of a buffer.
-fn build(
-    rt: &impl Print,
-    trial: Trial,
-    run: &[u8],
-    ends: &[u16],
-    weights: &[u16],
-    buffer: &mut [u8],
-) {
-    let built = builder::build(
-        beginning(run, trial.run),
-        first_of(ends, trial.ends),
-        trial.first as usize,
-        trial.second as usize,
-        first_of(weights, trial.weights),
-        buffer,
-    );
-    write_built(rt, built, sums_of(buffer));
-}
-
-// The same in the file, which gets the length that the vector names.
-fn build_in_file(
-    rt: &impl Print,
-    mut trial: Trial,
-    file: &mut [u8],
-    run: &[u8],
-    ends: &[u16],
-    weights: &[u16],
-) -> Trial {
-    let length = resize(rt, trial.length, trial.last, file);
-    trial.length = length;
-    if length <= file.len() {
-        build(rt, trial, run, ends, weights, &mut file[0..length]);
-    }
-    trial
-}
-
-// The end of a vector: what it asks for is done.
-fn done(
-    rt: &impl Print,
-    trial: Trial,
-    file: &mut [u8],
-    code: &[u8],
-    run: &mut [u8],
-    ends: &[u16],
-    weights: &[u16],
-    levels: &mut [u8],
-    times: &mut [u8],
-) -> Trial {
-    let letter = trial.letter;
-    if letter == b'#' {
-        return trial;
-    }
-    if !whole(trial) {
-        write_bad(rt);
-        return trial;
-    }
-    match letter {
-        b'C' | b'F' | b'R' | b'Z' | b'E' | b'W' => change(rt, trial, file, run),
-        b'B' => build_in_file(rt, trial, file, run, ends, weights),
-        b'K' | b'V' | b'U' => change_lists(rt, trial, levels, times),
-        b'A' | b'Q' => {
-            call_sign(
-                rt,
-                trial,
-                beginning(file, trial.length),
-                beginning(code, trial.count),
-                levels,
-                times,
-            );
-            trial
-        }
-        _ => {
-            call(rt, trial, beginning(file, trial.length), code);
-            trial
-        }
-    }
-}
+// Doing what vectors ask for: changes of what is held, and calls.
+use crate::answers::{Built, Line, Meant, Opened, Shown, Told, say, say_bad, say_listing};
+use crate::held::Held;
+use crate::reading::Vector;
+use crate::requests::Request;
+use crate::signs::{ask, clear_lists, report};
+use crate::sums::Sums;
 
 // The next byte of the vectors.
-pub fn step(
-    rt: &impl Print,
-    trial: Trial,
-    byte: u8,
-    file: &mut [u8],
-    code: &mut [u8],
-    run: &mut [u8],
-    ends: &mut [u16],
-    weights: &mut [u16],
-    levels: &mut [u8],
-    times: &mut [u8],
-) -> Trial {
+pub fn step(rt: &impl Print, vector: &mut Vector, held: &mut Held, byte: u8) {
     if byte == b'\n' {
-        return done(rt, trial, file, code, run, ends, weights, levels, times).next();
+        if done(rt, vector, held).is_none() {
+            say_bad(rt);
+        }
+        *vector = Vector::default();
+    } else {
+        vector.read(byte, held);
     }
-    trial.read(byte, file, code, run, ends, weights, levels, times)
+}
+
+// The end of a vector: what it asks for is done, if there is such a vector. The bytes and numbers that it brings are in their places already.
+fn done(rt: &impl Print, vector: &Vector, held: &mut Held) -> Option<()> {
+    held.code.keep(vector.count);
+    let request = vector.request()?;
+    let file = held.file.held();
+    match request {
+        Request::CutFile => held.file.resize(vector.last)?,
+        Request::CountUp => count_up(held.file.held_mut(), u8::try_from(vector.last).ok()?),
+        Request::Open => say(rt, Told(reader::open(file).map(Opened))),
+        Request::Header => say(rt, Told(reader::header(file).map(Opened))),
+        Request::Lookup => {
+            let found = reader::lookup(file, held.code.held());
+            say(rt, Told(found.map(|line| Line("at", line))));
+        }
+        Request::Show => say(rt, Shown(reader::show(file, vector.last))),
+        Request::List => say_listing(rt, file),
+        Request::Dump => say(rt, Shown(file)),
+        Request::Length => {
+            let length = reader::length(vector.first, vector.second, vector.last);
+            say(rt, format_args!("length {length}"));
+        }
+        Request::Refusal => say(rt, Meant(u8::try_from(vector.last).ok()?)),
+        Request::Run => held.run.keep(vector.count),
+        Request::CutRun => held.run.resize(vector.last)?,
+        Request::Ends => held.ends.keep(vector.blanks),
+        Request::Weights => held.weights.keep(vector.blanks),
+        Request::Build => build(rt, vector, held),
+        Request::ClearLists => clear_lists(held, vector.last)?,
+        Request::CutLevels => held.levels.resize(vector.last)?,
+        Request::CutTimes => held.times.resize(vector.last)?,
+        Request::Report => report(rt, vector, held)?,
+        Request::Ask => ask(rt, vector, held)?,
+        Request::Comment
+        | Request::PatchFile
+        | Request::PatchLevels
+        | Request::PatchTimes
+        | Request::Nothing => (),
+    }
+    Some(())
+}
+
+// The bytes become this one, the next and so on; after the largest comes 0.
+fn count_up(bytes: &mut [u8], first: u8) {
+    let mut next = first;
+    for byte in bytes.iter_mut() {
+        *byte = next;
+        next = next.wrapping_add(1);
+    }
+}
+
+// The build that a vector asks for, in all of the file, which gets the length that the vector names.
+fn build(rt: &impl Print, vector: &Vector, held: &mut Held) {
+    // a length that the file cannot have changes nothing, and the build goes on
+    if held.file.resize(vector.last).is_none() {
+        say_bad(rt);
+    }
+    let built = builder::build(
+        held.run.held(),
+        held.ends.held(),
+        vector.first,
+        vector.second,
+        held.weights.held(),
+        held.file.held_mut(),
+    );
+    let told = Told(built.map(Built));
+    let sums = Sums::of(held.file.held());
+    say(rt, format_args!("{told} {sums}"));
 }

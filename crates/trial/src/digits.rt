@@ -1,38 +1,30 @@
-// Digits of the vectors: their values, and numbers made of them.
+// Digits of the vectors, and numbers made of them.
 
 // Decimal digits have the values below this.
-pub const DECIMAL: u8 = 10;
+const DECIMAL: u8 = 10;
 
-// Hex digits have the values below this, and what is no digit has this one.
-pub const NO_DIGIT: u8 = 16;
+// The value of a decimal digit.
+pub fn decimal(byte: u8) -> Option<u8> {
+    hex(byte).filter(|digit| *digit < DECIMAL)
+}
 
 // The value of a decimal or lowercase hex digit.
-pub fn digit(byte: u8) -> u8 {
-    if byte < b'0' {
-        return NO_DIGIT;
+pub fn hex(byte: u8) -> Option<u8> {
+    match byte {
+        b'0'..=b'9' => Some(byte - b'0'),
+        b'a'..=b'f' => Some(byte - b'a' + DECIMAL),
+        _ => None,
     }
-    if byte <= b'9' {
-        return byte - b'0';
-    }
-    if byte < b'a' {
-        return NO_DIGIT;
-    }
-    if byte <= b'f' {
-        return byte - b'a' + DECIMAL;
-    }
-    NO_DIGIT
 }
 
 // A number with one more decimal digit; the largest where that is too large.
-pub fn with_digit(number: u64, digit: u8) -> u64 {
-    let d = digit as u64;
-    if number > (u64::MAX - d) / 10 {
-        return u64::MAX;
-    }
-    number * 10 + d
+pub fn with_digit(number: usize, digit: u8) -> usize {
+    number
+        .saturating_mul(usize::from(DECIMAL))
+        .saturating_add(usize::from(digit))
 }
 
 // The byte of two hex digits.
 pub fn byte_of(high: u8, low: u8) -> u8 {
-    (high % 16) * 16 + low % 16
+    high << 4 | low
 }

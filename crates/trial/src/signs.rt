@@ -1,138 +1,62 @@
-// The vectors of the sign: changes of its two lists, and calls with the lists as they are.
-use crate::answers::{write_asked, write_bad, write_reported};
-use crate::held::{PLACE_BYTES, beginning, clear, clear_levels, resize};
-use crate::levels::{level_fits, level_of};
-use crate::reading::Trial;
-use crate::sums::sums_of;
+// The vectors of the sign: clearing its two lists, and calls with the lists as they are.
+use crate::answers::{Asked, Line, Told, say};
+use crate::held::Held;
+use crate::reading::Vector;
+use crate::sums::Sums;
 
-// The largest time.
-const MOST_TIME: u64 = 4_294_967_295;
+// Bytes of a place of a list.
+const PLACE_BYTES: usize = 4;
 
-// The most places of a list.
-const MOST_PLACES: u64 = 1026;
+// A place of a cleared list of levels holds 30,000, which is 117 * 256 + 48.
+const CLEARED: [u8; PLACE_BYTES] = [48, 117, 0, 0];
 
-// Makes both lists cleared ones.
-fn clear_lists(rt: &impl Print, mut trial: Trial, levels: &mut [u8], times: &mut [u8]) -> Trial {
-    if MOST_PLACES < trial.last {
-        write_bad(rt);
-        return trial;
+// Makes both lists cleared ones with so many places, if they may have them.
+pub fn clear_lists(held: &mut Held, places: usize) -> Option<()> {
+    let bytes = places.saturating_mul(PLACE_BYTES);
+    held.levels.resize(bytes)?;
+    held.times.resize(bytes)?;
+    for level in held.levels.held_mut().chunks_exact_mut(PLACE_BYTES) {
+        level.copy_from_slice(&CLEARED);
     }
-    let bytes = trial.last as usize * PLACE_BYTES;
-    clear_levels(levels, bytes);
-    clear(times, 0, bytes);
-    trial.levels = bytes;
-    trial.times = bytes;
-    trial
+    held.times.held_mut().fill(0);
+    Some(())
 }
 
-// A change of the lists.
-pub fn change_lists(
-    rt: &impl Print,
-    mut trial: Trial,
-    levels: &mut [u8],
-    times: &mut [u8],
-) -> Trial {
-    let letter = trial.letter;
-    match letter {
-        b'V' => trial.levels = resize(rt, trial.levels, trial.last, levels),
-        b'U' => trial.times = resize(rt, trial.times, trial.last, times),
-        _ => trial = clear_lists(rt, trial, levels, times),
-    }
-    trial
+// The level of a size, with a minus before it or not, if it has 32 bits.
+fn level_of(size: usize, minus: bool) -> Option<i32> {
+    let size = i64::try_from(size).ok()?;
+    i32::try_from(if minus { -size } else { size }).ok()
 }
 
-// A time; the largest where the number has more than 32 bits.
-fn time_of(number: u64) -> u32 {
-    if MOST_TIME < number {
-        return u32::MAX;
-    }
-    number as u32
-}
-
-// A report, with all of the lists.
-fn report(
-    rt: &impl Print,
-    trial: Trial,
-    file: &[u8],
-    code: &[u8],
-    levels: &mut [u8],
-    times: &mut [u8],
-) {
-    let level = level_of(trial.second, trial.minus);
-    let told = sign::report(file, code, level, time_of(trial.last), levels, times);
-    write_reported(rt, told, sums_of(levels), sums_of(times));
-}
-
-// A report, with the beginnings of the buffers that are the lists.
-fn report_in_lists(
-    rt: &impl Print,
-    trial: Trial,
-    file: &[u8],
-    code: &[u8],
-    levels: &mut [u8],
-    times: &mut [u8],
-) {
-    let levels_end = trial.levels;
-    let times_end = trial.times;
-    if levels.len() < levels_end {
-        return;
-    }
-    if times.len() < times_end {
-        return;
-    }
-    report(
-        rt,
-        trial,
-        file,
-        code,
-        &mut levels[0..levels_end],
-        &mut times[0..times_end],
+// A report, with all of the lists, if its numbers have 32 bits.
+pub fn report(rt: &impl Print, vector: &Vector, held: &mut Held) -> Option<()> {
+    let level = level_of(vector.second, vector.minus)?;
+    let time = u32::try_from(vector.last).ok()?;
+    let reported = sign::report(
+        held.file.held(),
+        held.code.held(),
+        level,
+        time,
+        held.levels.held_mut(),
+        held.times.held_mut(),
     );
+    let levels = Sums::of(held.levels.held());
+    let times = Sums::of(held.times.held());
+    let told = Told(reported.map(|line| Line("accepted", line)));
+    say(rt, format_args!("{told} {levels} {times}"));
+    Some(())
 }
 
-// A question about the lists.
-fn ask(rt: &impl Print, trial: Trial, file: &[u8], code: &[u8], levels: &[u8], times: &[u8]) {
-    write_asked(
-        rt,
-        sign::ask(
-            file,
-            code,
-            time_of(trial.second),
-            time_of(trial.last),
-            beginning(levels, trial.levels),
-            beginning(times, trial.times),
-        ),
+// A question about the lists, if its numbers have 32 bits.
+pub fn ask(rt: &impl Print, vector: &Vector, held: &Held) -> Option<()> {
+    let answer = sign::ask(
+        held.file.held(),
+        held.code.held(),
+        u32::try_from(vector.second).ok()?,
+        u32::try_from(vector.last).ok()?,
+        held.levels.held(),
+        held.times.held(),
     );
-}
-
-// Whether the numbers of a call have 32 bits.
-fn numbers_fit(trial: Trial) -> bool {
-    if MOST_TIME < trial.last {
-        return false;
-    }
-    let letter = trial.letter;
-    match letter {
-        b'A' => level_fits(trial.second, trial.minus),
-        _ => trial.second <= MOST_TIME,
-    }
-}
-
-// The call of the sign that a vector asks for.
-pub fn call_sign(
-    rt: &impl Print,
-    trial: Trial,
-    file: &[u8],
-    code: &[u8],
-    levels: &mut [u8],
-    times: &mut [u8],
-) {
-    if !numbers_fit(trial) {
-        write_bad(rt);
-        return;
-    }
-    let letter = trial.letter;
-    match letter {
-        b'A' => report_in_lists(rt, trial, file, code, levels, times),
-        _ => ask(rt, trial, file, code, levels, times),
-    }
+    say(rt, Told(answer.map(Asked)));
+    Some(())
 }
