@@ -1,13 +1,13 @@
 -- The answers as C has them: each of the paper's numbers under its name. Assumes nothing.
 use Rattle.std.specs.Prelude.{ℕ, ℤ}
 use Rattle.directory.specs.declared.Part.{Part}
-use Rattle.dronesickle.specs.declared.DsAnswer.{DsAnswer}
-use Rattle.dronesickle.specs.declared.DsCounted.{DsCounted}
-use Rattle.dronesickle.specs.declared.DsOpened.{DsOpened}
-use Rattle.dronesickle.specs.declared.DsFound.{DsFound}
-use Rattle.dronesickle.specs.declared.DsPart.{DsPart}
-use Rattle.dronesickle.specs.declared.DsReported.{DsReported}
-use Rattle.dronesickle.specs.declared.DsAsked.{DsAsked}
+use Rattle.dronesickle.specs.declared.answers.DsAnswer.{DsAnswer}
+use Rattle.dronesickle.specs.declared.answers.DsCounted.{DsCounted}
+use Rattle.dronesickle.specs.declared.answers.DsOpened.{DsOpened}
+use Rattle.dronesickle.specs.declared.answers.DsFound.{DsFound}
+use Rattle.dronesickle.specs.declared.answers.DsPart.{DsPart}
+use Rattle.dronesickle.specs.declared.answers.DsReported.{DsReported}
+use Rattle.dronesickle.specs.declared.answers.DsAsked.{DsAsked}
 
 abbrev pub counted : ℕ × ℕ × ℕ → DsCounted
 counted (number, place, most) = record { number = number; place = place; most_waiting = most }
