@@ -10,7 +10,7 @@ use records::numbers::{GV, KY, RK, WT, marked};
 use records::offsets::{HEADER, key_at, ranks_at, values_at};
 use records::standing::Directory;
 
-// Whether a mark stands at an offset, or the refusal of a wrong one.
+// Whether a mark stands at an offset, or the refusal of a wrong one. By an offset, as document 01 places the marks.
 #[tactic(auto, unfolding(directory::specs::Refusals::first, directory::specs::Opening::wrong_mark))]
 fn mark(directory: Directory, at: usize, letters: (u8, u8)) -> Result<(), Refused>
     requires { at + 1 < length directory.file.now }

@@ -1,4 +1,4 @@
-// The calls from C: each takes numbers and slices, calls the proved call of the same purpose, and gives its answer in the paper's numbers. include/dronesickle.h is their description for C.
+// The calls from C: each takes numbers and slices, calls the proved call of the same purpose, and gives its answer in the paper's numbers. include/dronesickle.h is their description for C. The parameters stay flat, as C passes them.
 #![tactic(auto)]
 
 mod answers; // answers.rt: the answers as C has them

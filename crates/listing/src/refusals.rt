@@ -8,7 +8,7 @@ use crate::numbers::put_decimal;
 use directory::Refused;
 use storing::Pen;
 
-// A blank and a number.
+// A blank and a number. By hand, as in numbers.rt: the contract gives every byte, and std's `fmt` ensures nothing that a proof can use.
 fn put_number(out: &mut Pen, x: usize)
     requires { RoomFor (length (blank ∷ decimal x)) out.old }
     ensures { Went (blank ∷ decimal x) out.old out.new }

@@ -35,6 +35,7 @@ impl Weights for Naming<'_> {
 
 impl Naming<'_> {
     // Writes the r vertices of a code from `at` on.
+    // At a place of the whole array: with a slice of r places `Noted at r ..` would still have to be said of the whole in `name_edges`, and no clause would be plainer.
     fn name_vertices(self, code: Code, at: usize, edges: &mut [u16])
         requires { at + self.r ≤ length edges.old }
         ensures { Noted at self.entry.r (vertex_of HD self.entry.v (λ i. get_or self.entry.weights.now i 0) code.entry.bytes.now) edges.old edges.new }

@@ -77,6 +77,7 @@ module _ {n r m : ℕ} {edges : List ℕ} (held : Held n r m edges) (nothing : n
 
 -- ---- the arrays may be the starts of longer ones
 
+-- cited by nothing: docs/landings/08-todays-rattle.md names it
 pub arranged_front : {G : Graph} {W R K : List ℕ} {left most : ℕ} → Arranged G W R K left most → (W' R' K' : List ℕ) → G.vertices ≤ length W → blocks G.vertices ≤ length R → G.edges ≤ length K → Arranged G (W ++ W') (R ++ R') (K ++ K') left most
 arranged_front {G} {W} {R} {K} a W' R' K' w r k =
     record {

@@ -36,6 +36,7 @@ fn give_lines(
 
 // The whole sequence over arrays with an entry for each vertex, each edge and each block. Returns how many edges are left over and how many waited at once at the most; where none is left over, the values, the rank entries and the edges in the order of their lines are written.
 // While edges are removed, `keys` has the marks of those that ever waited.
+// The arrays stay parameters and `Untallied` a clause, as in `removal::remove_all`.
 fn arrange_all(
     edges: Edges,
     degrees: &mut [u16],
@@ -58,6 +59,7 @@ fn arrange_all(
 
 // The whole sequence for n edges of r vertices, v to a part; the arrays may be longer than needed, and `degrees` and `sums` are lent with 0 in each place. Returns how many edges are left over and how many waited at once at the most; where none is left over, the values, the rank entries and the edges in the order of their lines stand at the starts of their arrays.
 // Flat, as the builder has them: here they become one value.
+// `Held` and `Untallied` stay clauses, as in `removal::remove_all`.
 pub fn arrange(
     n: usize,
     r: usize,

@@ -21,6 +21,7 @@ unfolding number
 number_equal zero B C g = refl
 number_equal (suc k) B C g = let n = number_equal k (λ j. B (suc j)) (λ j. C (suc j)) (λ j l. g (suc j) (omega arith)) in omega (arith, n, g 0 (omega arith))
 
+-- cited by nothing: docs/notes-on-proofs.md names it
 pub number_back : (k : ℕ) (B C : ℕ → ℕ) → ((j : ℕ) → B j < one_byte) → ((j : ℕ) → C j < one_byte) → number k B ≡ number k C → (j : ℕ) → j < k → B j ≡ C j
 unfolding number
 number_back zero B C b c e j l = absurd (omega arith)
@@ -29,5 +30,6 @@ number_back (suc k) B C b c e (suc j) l = number_back k (λ j. B (suc j)) (λ j.
 
 -- ---- a code against the part of a file that starts at `at`
 
+-- cited by nothing: docs/landings/08-todays-rattle.md names it
 pub begins_next : (f : List ℕ) (at : ℕ) (t : List ℕ) (i : ℕ) → Begins f at t i → get_or f (at + i) 0 ≡ get_or t i 0 → Begins f at t (i + 1)
 begins_next f at t i g e j l = ⊎_elim (λ (m : j < i). g j m) (λ (m : i ≤ j). let q : j ≡ i = omega arith in rw q e) (lt? j i)

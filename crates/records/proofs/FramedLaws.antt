@@ -21,5 +21,6 @@ module _ (h : Header) (f : List ℕ) (s : Framed HD h f) where
   pub framed_keyed : (l : ℕ) → l < h.n → Keyed h l f
   framed_keyed l m = record { room = sized_room h s.sizes; few = omega (arith, s.sizes.few); long = omega (arith, length_from h) }
 
+  -- cited by nothing: docs/landings/08-todays-rattle.md names it
   pub framed_part : h.v ≤ most_vertices
   framed_part = part_most h.r h.v (sized_room h s.sizes)

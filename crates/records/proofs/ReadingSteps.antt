@@ -10,6 +10,7 @@ use Rattle.directory.specs.Values.{value_in}
 use Rattle.records.specs.Standing.{bytes_from}
 
 -- a truth as a number of the machine
+-- cited by nothing: docs/landings/08-todays-rattle.md names it
 pub told_as_bit : (b : Bool) → bool_byte b ≡ bit b
 told_as_bit true = refl
 told_as_bit false = refl

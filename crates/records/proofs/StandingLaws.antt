@@ -31,6 +31,7 @@ module _ (h : Header) where
   length_from = key_from_lem n
 
   module _ (f : List ℕ) where
+    -- cited by nothing: docs/landings/08-todays-rattle.md names it
     pub weights_from : weight_of f ≡ weight_in HD h f
     unfolding weight_in weights_at
     weights_from = refl
@@ -57,6 +58,7 @@ pub part_most : (r v : ℕ) → Room r v → v ≤ most_vertices
 part_most r v s = let a : 1 * v ≤ r * v = mul-le-mul {n₁ = 1} {m₁ = v} {n₂ = r} {m₂ = v} (omega (arith, s.two)) (omega arith) in omega (arith, a, s.room)
 
 -- a part starts at no more than 2 times the largest part size
+-- cited by nothing: docs/landings/08-todays-rattle.md names it
 pub part-start : (j v : ℕ) → j < 3 → v ≤ most_vertices → j * v ≤ 2 * most_vertices
 part-start j v l m = mul-le-mul {n₁ = j} {m₁ = v} {n₂ = 2} {m₂ = most_vertices} (omega arith) m
 

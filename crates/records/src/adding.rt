@@ -72,6 +72,7 @@ pub fn vertex(sum: u32, v: usize, j: usize) -> usize
 }
 
 // The vertices of a code, as many as there are parts. Where there are two, the third is 0.
+// `Room` stays a clause: `Tables` and `Naming` each know it of their own r and v, and a type that both could lend would say no more.
 pub fn name_vertices<W: Weights>(weights: &W, r: usize, v: usize, code: Code) -> [usize; MOST_PARTS]
     requires sizes { Room r v }
     requires weighed { most_bytes * r ≤ W.count weights.now }

@@ -1,4 +1,5 @@
 // Marks and numbers in the bytes of a file.
+// By an offset of the file, as document 01 places its records: no length stands beside it.
 ghost use Rattle.std.specs.Prelude.{◌≡◌, ◌+◌, ◌<◌, length};
 ghost use Rattle.counting.specs.Widths.{one_byte, two_bytes};
 ghost use Rattle.directory.specs.Bytes.{byte_at, two_at, marked as markedAt};

@@ -45,6 +45,7 @@ pub fn ranks_at(h: Header) -> usize
 }
 
 // The KY record of line l stands here, and the file ends where that of line n would.
+// `Room` stays a clause, as in `ranks_at`.
 pub fn key_at(h: Header, l: usize) -> usize
     requires room { Room h.r h.v }
     requires few { l ≤ most_codes }
@@ -55,6 +56,7 @@ pub fn key_at(h: Header, l: usize) -> usize
 }
 
 // The code of line l stands here, after its mark and length.
+// `Room` stays a clause, as in `ranks_at`.
 pub fn code_at(h: Header, l: usize) -> usize
     requires room { Room h.r h.v }
     requires few { l ≤ most_codes }

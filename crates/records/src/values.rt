@@ -51,6 +51,7 @@ fn count_four(four: usize, r: usize) -> usize
 }
 
 // How many of the values of so many bytes are, from place `from` on, which is the first of a byte.
+// By an offset, as `value`.
 fn count_fours(file: &[u8], at: usize, r: usize, from: usize, bytes: usize) -> usize
     requires first { from % 4 ≡ 0 }
     requires room { (at + (mark_length + (from / 4 + bytes)) ≤ length file.now) × (from / 4 + bytes ≤ most_vertices) }
@@ -65,6 +66,7 @@ fn count_fours(file: &[u8], at: usize, r: usize, from: usize, bytes: usize) -> u
 }
 
 // How many of the k values from place `from` on are, one by one.
+// By an offset, as `value`.
 fn count_singly(file: &[u8], at: usize, r: usize, from: usize, k: usize) -> usize
     requires { (at + (mark_length + (from + k + 3) / 4) ≤ length file.now) × (from + k ≤ most_vertices) }
     ensures counted { result ≡ count_by (λ i. assigned r (value_in (bytes_from file.now at) (from + i))) (range_with_len 0 k) }

@@ -10,6 +10,7 @@ use crate::edges::Edges;
 use crate::tally::first_of_degree;
 
 // The first queue: every edge, in list order, that has a vertex of degree 1. Returns its length, and marks the edges in it.
+// `Held` stays a clause, as in `removal::remove_all`.
 pub fn first_queue(edges: Edges, degrees: &[u16], queued: &mut [u16], order: &mut [u16]) -> usize
     requires held { Held (length order.old) edges.r (length degrees.now) edges.list.now }
     requires even { length queued.old ≡ length order.old }
@@ -43,6 +44,7 @@ fn join_back(f: usize, t: usize, queued: &mut [u16], order: &mut [u16]) -> usize
 }
 
 // Removes the front edge: takes it off each of its vertices, and where one edge is left there lets that one join. Returns the new end of the queue.
+// The arrays stay parameters, as in `removal::remove_all`.
 fn remove_front(
     head: usize,
     tail: usize,
@@ -73,6 +75,7 @@ fn remove_front(
 }
 
 // Peels from the first queue, order[..tail]: the removed edges stand in order, first removed first. Counts those that wait after the start and after each step.
+// The arrays stay parameters, as in `removal::remove_all`.
 pub fn peel(
     tail: usize,
     edges: Edges,

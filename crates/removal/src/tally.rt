@@ -20,6 +20,7 @@ pub fn link(e: usize, edges: Edges, degrees: &mut [u16], sums: &mut [u32])
 }
 
 // Puts all n edges on their vertices, where none is on any of them.
+// `Held` and `Untallied` stay clauses, as in `removal::remove_all`.
 pub fn tally(n: usize, edges: Edges, degrees: &mut [u16], sums: &mut [u32])
     requires held { Held n edges.r (length degrees.old) edges.list.now }
     requires even { length sums.old ≡ length degrees.old }

@@ -30,6 +30,7 @@ impl<T: Copy + Default, const N: usize> Filled<T, N> {
     }
 
     // Puts an item at a place of the buffer, if it has that; the item is held once so many are kept.
+    // A place of this struct's own buffer, as with a Vec: no place stands beside a lent one.
     pub fn put(&mut self, at: usize, item: T) -> Option<()> {
         *self.all.get_mut(at)? = item;
         Some(())

@@ -14,6 +14,7 @@ use Rattle.directory.proofs.ValueLaws.{spare_zero-vertex, spare_zero_spare}
 or_above : (bits x low : ℕ) → low < 2 ^ bits → bit_or low (x * 2 ^ bits) ≡ low + x * 2 ^ bits
 or_above bits x low l = or_shifted_r x bits low l ∙ add_comm (x * 2 ^ bits) low
 
+-- cited by nothing: docs/landings/08-todays-rattle.md names it
 pub four_in_byte : (a b c d : ℕ) → a ≤ 3 → b ≤ 3 → c ≤ 3 → d ≤ 3 → bit_or (bit_or (bit_or a ((b * 4) % 256)) ((c * 16) % 256)) ((d * 64) % 256) ≡ a + 4 * b + 16 * c + 64 * d
 four_in_byte a b c d la lb lc ld =
     let eb : (b * 4) % 256 ≡ b * 4 = omega arith in
