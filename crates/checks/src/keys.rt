@@ -20,7 +20,7 @@ fn filling_set(filling: &[u8]) -> bool
 }
 
 // Whether the KY record of line l has a length of 0 or over 32, or filling that is not zero.
-// The test of the length is that of reader::sizes::wrong_length, which stands above this crate and whose edit holds it there.
+// The test of the length is that of reader::sizes::wrong_length, which stands above this crate.
 #[tactic(auto, unfolding(directory::specs::Opening::key_wrong, directory::specs::Codes::wrong_length))]
 fn key_wrong(directory: Directory, l: usize) -> bool
     requires { l < directory.header.n }

@@ -1,7 +1,8 @@
 -- When bytes are those of a code: what `==` says of two slices, and that bytes are equal if the numbers that they make are. Assumes nothing.
-use Rattle.std.specs.Prelude.{◌≡◌, refl, ◌&&◌, List, [], ◌∷◌, ℕ, zero, suc, ◌+◌, ◌<◌, eqb, get_or, ◌≤◌}
+use Rattle.std.specs.Prelude.{◌≡◌, Bool, refl, ◌&&◌, List, [], ◌∷◌, ℕ, zero, suc, ◌+◌, ◌<◌, eqb, get_or, ◌≤◌, length, take, drop}
 use Rattle.std.specs.Cmp.Lexicographic.{pointwise}
-use Rattle.std.proofs.Common.{ap, ⊎_elim, arith}
+use Rattle.std.proofs.Common.{ap, ⊎_elim, arith, sym, ◌∙◌}
+use Rattle.std.proofs.Math.Bool.{and_assoc}
 use Rattle.counting.specs.Widths.{one_byte}
 use Rattle.counting.specs.Lists.{same}
 use Rattle.counting.proofs.TestLaws.{lt?}
@@ -13,6 +14,19 @@ pointwise_same [] [] = refl
 pointwise_same [] (y ∷ t) = refl
 pointwise_same (x ∷ s) [] = refl
 pointwise_same (x ∷ s) (y ∷ t) = ap (λ b. eqb x y && b) (pointwise_same s t)
+
+-- two lists of one length are the same exactly if their first k elements are, and the rest
+same_onward : (k : ℕ) (s t : List ℕ) → length s ≡ length t → same s t ≡ same (take k s) (take k t) && same (drop k s) (drop k t)
+unfolding same
+same_onward zero s t e = refl
+same_onward (suc k) [] [] e = refl
+same_onward (suc k) [] (y ∷ t) e = absurd (omega (arith, e))
+same_onward (suc k) (x ∷ s) [] e = absurd (omega (arith, e))
+same_onward (suc k) (x ∷ s) (y ∷ t) e = ap (λ b. eqb x y && b) (same_onward k s t (omega (arith, e))) ∙ sym (and_assoc (eqb x y) (same (take k s) (take k t)) (same (drop k s) (drop k t)))
+
+-- the same, where what `==` says of the first k is known
+pub first_decide : (k : ℕ) (s t : List ℕ) {a b u v : List ℕ} {alike : Bool} → length s ≡ length t → a ≡ take k s → u ≡ drop k s → b ≡ take k t → v ≡ drop k t → alike ≡ pointwise eqb a b → same s t ≡ alike && same u v
+first_decide k s t l p q p' q' d = rw (d, p, q, p', q', pointwise_same (take k s) (take k t)) (same_onward k s t l)
 
 -- ---- bytes as a number: equal exactly if the bytes are
 
