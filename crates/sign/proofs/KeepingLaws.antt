@@ -1,19 +1,24 @@
 -- The lists keep the last reports: what is kept at a line is what was put there, other lines stay, and cleared lists were never heard. Assumes nothing.
-use Rattle.std.specs.Prelude.{◌≡◌, refl, ◌≢◌, true, ℕ, ◌/◌, ◌<◌, ℤ, pos, length, get_or}
-use Rattle.std.proofs.Common.{arith, eqb-true, eq-eqb, lt-ltb}
+use Rattle.std.specs.Prelude.{◌≡◌, refl, ◌≢◌, true, false, ◌&&◌, ℕ, ◌/◌, ◌<◌, ℤ, pos, length, get_or}
+use Rattle.std.proofs.Common.{arith, eqb-true, eq-eqb, lt-ltb, ltb-true}
 use Rattle.counting.proofs.TestLaws.{and_left, and_right, and_both}
 use Rattle.sign.specs.Levels.{in_range, twos}
 use Rattle.sign.proofs.LevelLaws.{level_back, range_bits}
 use Rattle.sign.specs.Places.{place_bytes, place_at, number_at, filled}
 use Rattle.sign.proofs.PlaceLaws.{length-with, byte_stays, number_same, number-other, length-filled, number-filled}
 use Rattle.sign.specs.Rules.{heard, never_heard, last_of}
-use Rattle.sign.specs.Keeping.{Lists, long_enough, fits, Room, last_at, heard_at, keep, cleared}
+use Rattle.sign.specs.Keeping.{Lists, long_enough, has_place, fits, Room, last_at, heard_at, keep, cleared}
 
 -- ---- what stored numbers mean
 
 pub last-heard : (level : ℤ) (time : ℕ) → in_range level ≡ true → last_of level time ≡ heard level time
 unfolding last_of
 last-heard level time e = rw e
+
+-- cited by nothing: docs/DESIGN-PASS.md names it
+pub last_never : (level : ℤ) (time : ℕ) → in_range level ≡ false → last_of level time ≡ never_heard
+unfolding last_of
+last_never level time e = rw e
 
 -- ---- lists that fit
 
@@ -35,6 +40,13 @@ module _ (S : Lists) (line : ℕ) where
   pub heard_room : Room line S.levels S.times → heard_at S line ≡ last_at S line
   unfolding heard_at
   heard_room room = rw (lt-ltb line (length S.levels / place_bytes) (omega (arith, room.0)), lt-ltb line (length S.times / place_bytes) (omega (arith, room.1)))
+
+  -- cited by nothing: docs/DESIGN-PASS.md names it
+  pub places_room : has_place line (length S.levels) && has_place line (length S.times) ≡ true → Room line S.levels S.times
+  places_room h =
+      let l = ltb-true line (length S.levels / place_bytes) (and_left (has_place line (length S.levels)) (has_place line (length S.times)) h) in
+      let t = ltb-true line (length S.times / place_bytes) (and_right (has_place line (length S.levels)) (has_place line (length S.times)) h) in
+      (omega (arith, l), omega (arith, t))
 
   -- lists that fit have every line's
   pub heard-fits : (n : ℕ) → fits n S ≡ true → line < n → heard_at S line ≡ last_at S line

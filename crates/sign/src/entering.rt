@@ -17,12 +17,12 @@ pub(crate) fn enter(
 ) -> Result<Option<usize>, Refused>
     ensures { result ≡ entered file.now code.now limited (fits (lines_in file.now) lent.now) }
 {
-    let lines = header(file)?.n;
     let found = lookup(file, code)?;
     if !limited {
         return Err(Reason::WrongLimit.at(0));
     }
-    if !lent.fit(lines) {
+    // looking up has seen the header; it is read again only here, so that what is refused before costs one look at it
+    if !lent.fit(header(file)?.n) {
         return Err(Reason::WrongLists.at(0));
     }
     Ok(found)
