@@ -1,11 +1,9 @@
 -- The values of hex digits, and which digits make pairs. Assumes nothing.
-use Rattle.std.specs.Prelude.{◌≡◌, ◌≢◌, Bool, false, List, ℕ, ◌+◌, ◌-◌, ◌%◌, ◌≤◌, ◌<◌, ◌||◌, [], ◌∷◌, zero, suc, eqb, length, get_or, Option, Some, None, MatchOption}
+use Rattle.std.specs.Prelude.{◌≡◌, ◌≢◌, Bool, false, List, ℕ, ◌+◌, ◌-◌, ◌%◌, ◌≤◌, ◌<◌, ◌||◌, [], ◌∷◌, zero, suc, eqb, length, get_or}
 use Rattle.std.proofs.Math.Path.{sym, refl}
 use Rattle.std.proofs.Common.{ap, arith, ◌∙◌}
 use Rattle.std.proofs.Math.Bool.{not, or-false, or_assoc}
 use Rattle.std.proofs.lemmas.Bool.Decides.{nat_tests}
-use Rattle.std.specs.Char.{digit_value}
-use Rattle.std.specs.Option.{SomeIff}
 use Rattle.std.specs.List.{list_any}
 use borrow.Author.Tests.{eq-eqb, ne_eqb, eqb-false}
 use Rattle.counting.proofs.TestLaws.{or_neither_second}
@@ -23,19 +21,6 @@ module _ (b : ℕ) where
   pub value_small : 97 ≤ b → b < 103 → b - 97 + 10 ≡ hex_value b
   unfolding hex_value
   value_small l h = grind (arith, nat_tests)
-
-  known : digit_value b < 16 → digit_value b ≡ hex_value b
-  unfolding hex_value
-  known l = grind (arith, nat_tests)
-
-  unknown : 16 ≤ digit_value b → hex_value b ≡ no_digit
-  unfolding hex_value
-  unknown l = grind (arith, nat_tests)
-
-  -- the library's answer
-  pub digit_found : (answer : Option ℕ) → SomeIff answer (digit_value b < 16) (digit_value b) → MatchOption answer (hex_value b ≡ no_digit) (λ d. (d ≡ hex_value b) × (d < no_digit))
-  digit_found None none = unknown (omega arith)
-  digit_found (Some d) some = let e : d ≡ hex_value b = some.1 ∙ known some.0 in (e, omega arith)
 
 -- ---- pairs
 

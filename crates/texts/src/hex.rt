@@ -5,13 +5,21 @@ ghost use Rattle.texts.specs.Codes.{hex_value, no_digit, wrong_pairs, first_pair
 
 use storing::Pen;
 
-const SIXTEEN: u32 = 16;
+const SIXTEEN: u8 = 16;
 
-// The value of a digit.
-fn hex_value(b: u8) -> Option<u32>
+const TEN: u8 = 10;
+
+// The value of a digit. By hand, and no `to_digit`, which looks at a character in more steps: a text of codes in hex took more instructions by it.
+#[tactic(auto, using(std::proofs::lemmas::Bool::Decides::nat_tests), unfolding(crate::specs::Codes::hex_value))]
+fn hex_value(b: u8) -> Option<u8>
     ensures { MatchOption result (hex_value b ≡ no_digit) (λ d. (d ≡ hex_value b) × (d < no_digit)) }
 {
-    char::from(b).to_digit(SIXTEEN)
+    match b {
+        b'0'..=b'9' => Some(b - b'0'),
+        b'a'..=b'f' => Some(b - b'a' + TEN),
+        b'A'..=b'F' => Some(b - b'A' + TEN),
+        _ => None,
+    }
 }
 
 // Whether the digits are odd in number, or one of them is none.
@@ -26,7 +34,7 @@ fn pair_byte(high: u8, low: u8) -> u8
     requires { (hex_value high ≢ no_digit) × (hex_value low ≢ no_digit) }
     ensures { result ≡ 16 * hex_value high + hex_value low }
 {
-    (SIXTEEN * hex_value(high).unwrap() + hex_value(low).unwrap()) as u8
+    SIXTEEN * hex_value(high).unwrap() + hex_value(low).unwrap()
 }
 
 // Writes the bytes of the first pairs, so many of them.

@@ -9,16 +9,7 @@ use crate::Report;
 use crate::coding::{MOST_KEPT, read_code};
 use crate::levels::read_level;
 use crate::numbers::read_number;
-use crate::words::{no_word, word};
-
-// The words' places, and how many there are.
-const CODE: usize = 0;
-
-const LEVEL: usize = 1;
-
-const TIME: usize = 2;
-
-const WORDS: usize = 3;
+use crate::words::{after_word, first_word, past_blanks};
 
 // The largest time, a number of 32 bits.
 pub const MOST_TIME: u32 = 4_294_967_295;
@@ -28,11 +19,15 @@ pub fn read_report(line: &[u8], code: &mut [u8; MOST_KEPT]) -> Option<Report>
     ensures answer { result ≡ report_of line.now }
     ensures stored { Wrote 0 (code_stored (word_of line.now 0)) code.old code.new (length (code_stored (word_of line.now 0))) }
 {
-    let size = read_code(word(line, CODE), code)?;
-    let level = read_level(word(line, LEVEL))?;
-    let time = read_number(word(line, TIME), MOST_TIME)?;
-    if !no_word(line, WORDS) {
+    let words = past_blanks(line);
+    let size = read_code(first_word(words), code)?;
+    let from_level = after_word(words);
+    let from_time = after_word(from_level);
+    let behind = after_word(from_time);
+    if !behind.is_empty() {
         return None;
     }
+    let level = read_level(first_word(from_level))?;
+    let time = read_number(first_word(from_time), MOST_TIME)?;
     Some(Report { size, level, time })
 }

@@ -1,7 +1,7 @@
 // The words of a text.
 ghost use Rattle.std.specs.Prelude.{◌≡◌};
 ghost use Rattle.texts.specs.Parts.{before, since};
-ghost use Rattle.texts.specs.Words.{is_blank, not_blank, from_word, no_word, word as word_of};
+ghost use Rattle.texts.specs.Words.{is_blank, not_blank, from_word, word as word_of};
 
 use crate::finding::{is_blank, since, until};
 
@@ -36,14 +36,6 @@ fn from_word(text: &[u8], k: usize) -> &[u8]
         rest = after_word(rest);
     }
     rest
-}
-
-// Whether there is no word k.
-#[tactic(auto, using(crate::proofs::WordSteps::word_over))]
-pub(crate) fn no_word(text: &[u8], k: usize) -> bool
-    ensures { result ≡ no_word text.now k }
-{
-    from_word(text, k).is_empty()
 }
 
 // Word k, as a part of the text.
