@@ -1,5 +1,5 @@
 -- What is proved of every build beside the demands, for readers: its numbers, what the refusals 1 to 7 say as facts, and the waiting queue. Assumes nothing.
-use Rattle.std.specs.Prelude.{Ok, ◌≡◌, ◌≢◌, ◌↔◌, false, List, ◌++◌, ℕ, ◌≤◌, ◌<◌, length, get_or}
+use Rattle.std.specs.Prelude.{Ok, refl, ◌≡◌, ◌≢◌, ◌↔◌, false, List, ◌++◌, ℕ, ◌≤◌, ◌<◌, length, get_or}
 use Rattle.std.proofs.Common.{arith}
 use Rattle.counting.specs.Below.{any}
 use Rattle.counting.specs.Lists.{occurrences}
@@ -15,7 +15,7 @@ use Rattle.directory.specs.Lending.{WithinLimits, Different}
 use Rattle.directory.specs.Conditions.{ArityRight, PartRight, WeightsRight, FewCodes, ListRight, RoomEnough, FirstWrong, FirstRepeated}
 use Rattle.directory.specs.Calls.{build_of, build_numbers_of}
 use Rattle.directory.proofs.LendingLaws.{limits, limits_back, different, different_back}
-use Rattle.directory.proofs.NumberLaws.{build_paper, numbers_of_done, numbers_of_refused}
+use Rattle.directory.proofs.NumberLaws.{build_paper, numbers_of_done, numbers_of_refused, number_some, refused_by_number}
 use Rattle.directory.proofs.BuildingLaws.{build-number}
 use Rattle.directory.proofs.WaitingLaws.{waiting_different, waiting_places}
 use Rattle.directory.proofs.RefusedLaws.{refused_1, refused_2, refused_3, refused_4, refused_5, refused_6, refused_7}
@@ -33,6 +33,12 @@ module _ (I : Lent) where
   -- otherwise the number and the place are those of the refusal, with 0 beside them
   pub otherwise_the_refusals_number_and_place : (number p : ℕ) → 1 ≤ number → (build_numbers_of I ≡ (number, p, 0)) ↔ ((k : Reason) × (number_of k ≡ number) × (build_of I ≡ refused k p))
   otherwise_the_refusals_number_and_place = rw (← build_paper I) (numbers_of_refused (build_of I))
+
+  -- a number is that of one reason, so these numbers tell the refusal itself
+  pub the_numbers_tell_the_refusal : (k : Reason) (p : ℕ) → (build_numbers_of I ≡ (number_of k, p, 0)) ↔ (build_of I ≡ refused k p)
+  the_numbers_tell_the_refusal k p =
+      let w = otherwise_the_refusals_number_and_place (number_of k) p (number_some k) in
+      (λ e. refused_by_number k p (w.0 e), λ e. w.1 (k, refl, e))
 
   -- ---- none of 1 to 7
 

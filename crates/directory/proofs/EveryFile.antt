@@ -14,7 +14,7 @@ use Rattle.directory.specs.Showing.{empty_part, bytes_of, shown, ShowsNothing, S
 use Rattle.directory.specs.Calls.{kind_of, header_of, open_of, lookup_of, header_numbers_of, open_numbers_of, lookup_numbers_of, show_part_of, show_of}
 use Rattle.directory.specs.Answers.{opening_numbers, found_numbers}
 use Rattle.directory.proofs.RefusalLaws.{given_more}
-use Rattle.directory.proofs.NumberLaws.{header_paper, open_paper, lookup_paper, open_numbers, lookup-numbers, numbers_of_success, numbers_of-refusal}
+use Rattle.directory.proofs.NumberLaws.{header_paper, open_paper, lookup_paper, open_numbers, lookup-numbers, numbers_of_success, numbers_of-refusal, number_some, refused_by_number}
 use Rattle.directory.proofs.OpeningLaws.{header-opened, header_refused, opening-opened, opening_refused}
 use Rattle.directory.proofs.LookupLaws.{lookup-line, lookup-below, lookup_refused}
 use Rattle.directory.proofs.ShowingLaws.{shown-part, shown-stored, part_empty, shown_empty, shown_bytes}
@@ -104,6 +104,12 @@ module _ (f : List ℕ) where
   -- otherwise the number and the place are those of the refusal, and n, r and v are 0
   pub otherwise_the_refusals_number_and_place : (number p : ℕ) → 1 ≤ number → (open_numbers_of f ≡ (number, p, 0, 0, 0)) ↔ ((k : Reason) × (number_of k ≡ number) × (open_of f ≡ refused k p))
   otherwise_the_refusals_number_and_place = rw (← open_paper f) (numbers_of-refusal (open_of f))
+
+  -- a number is that of one reason, so these numbers tell the refusal itself
+  pub the_numbers_tell_the_refusal : (k : Reason) (p : ℕ) → (open_numbers_of f ≡ (number_of k, p, 0, 0, 0)) ↔ (open_of f ≡ refused k p)
+  the_numbers_tell_the_refusal k p =
+      let w = otherwise_the_refusals_number_and_place (number_of k) p (number_some k) in
+      (λ e. refused_by_number k p (w.0 e), λ e. w.1 (k, refl, e))
 
   -- ---- looking up
 

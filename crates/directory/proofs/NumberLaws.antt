@@ -1,7 +1,7 @@
 -- The numbers that each call refuses with, within its group; so number 0 is success alone; and each answer's numbers are the paper's. Assumes nothing.
-use Rattle.std.specs.Prelude.{Ok, Err, ◌≡◌, ◌↔◌, Bool, true, ◌&&◌, List, ℕ, ◌≤◌, leb}
+use Rattle.std.specs.Prelude.{Result, Ok, Err, ◌≡◌, ◌↔◌, Bool, true, ◌&&◌, List, [], ◌∷◌, ℕ, ◌-◌, ◌≤◌, leb, map, get_or}
 use Rattle.std.proofs.Math.Path.{refl}
-use Rattle.std.proofs.Common.{ap, ◌∙◌, arith, leb-true}
+use Rattle.std.proofs.Common.{ap, sym, ◌∙◌, arith, leb-true}
 use Rattle.counting.proofs.TestLaws.{and_left, and_right}
 use Rattle.counting.specs.Lists.{every}
 use Rattle.directory.specs.Sizes.{headed, Header}
@@ -16,6 +16,7 @@ use Rattle.directory.specs.LookingUp.{lookup_refusals, lookup}
 use Rattle.directory.specs.Answers.{Built, Opening, built_numbers, opening_numbers, found_numbers}
 use Rattle.directory.specs.Calls.{build_of, header_of, open_of, lookup_of, build_numbers_of, open_numbers_by, header_numbers_of, open_numbers_of, lookup_numbers_of}
 use Rattle.directory.specs.declared.Reason.{Reason}
+use Rattle.directory.specs.declared.Refused.{Refused}
 use Rattle.directory.specs.declared.Reason.TheVariants.{WrongArity, WrongPartSize, WrongWeights, TooManyCodes, WrongList, ShortBuffer, RepeatedCode, Cyclic, WrongSize, WrongMark, WrongHeader, WrongValue, WrongRank, WrongKey, StrayCode, WrongCode, WrongLevel, EarlierTime, EarlierNow, WrongLimit, WrongLists}
 
 -- the number of a row's reason is from low to high
@@ -45,6 +46,25 @@ module _ (K : Kind) (h : Header) (f : List ℕ) {k : Reason} {p : ℕ} where
   pub lookup-numbers : (t : List ℕ) → Given (lookup_refusals K h f t) k p → (9 ≤ number_of k) × (number_of k ≤ 16)
   unfolding every numbered lookup_refusals header_refusals
   lookup-numbers t = given_numbered 9 16 refl
+
+-- ---- the numbers of documents 01 and 02, and each is that of one reason
+
+pub numbers_are : map number_of (WrongArity ∷ WrongPartSize ∷ WrongWeights ∷ TooManyCodes ∷ WrongList ∷ ShortBuffer ∷ RepeatedCode ∷ Cyclic ∷ WrongSize ∷ WrongMark ∷ WrongHeader ∷ WrongValue ∷ WrongRank ∷ WrongKey ∷ StrayCode ∷ WrongCode ∷ WrongLevel ∷ EarlierTime ∷ EarlierNow ∷ WrongLimit ∷ WrongLists ∷ []) ≡ 1 ∷ 2 ∷ 3 ∷ 4 ∷ 5 ∷ 6 ∷ 7 ∷ 8 ∷ 9 ∷ 10 ∷ 11 ∷ 12 ∷ 13 ∷ 14 ∷ 15 ∷ 16 ∷ 17 ∷ 18 ∷ 19 ∷ 22 ∷ 23 ∷ []
+numbers_are = refl
+
+-- the reasons in the places of their numbers, from 1 on; in those of 20 and 21, which no reason has, another one stands
+abbrev placed : List Reason
+placed = WrongArity ∷ WrongPartSize ∷ WrongWeights ∷ TooManyCodes ∷ WrongList ∷ ShortBuffer ∷ RepeatedCode ∷ Cyclic ∷ WrongSize ∷ WrongMark ∷ WrongHeader ∷ WrongValue ∷ WrongRank ∷ WrongKey ∷ StrayCode ∷ WrongCode ∷ WrongLevel ∷ EarlierTime ∷ EarlierNow ∷ EarlierNow ∷ EarlierNow ∷ WrongLimit ∷ WrongLists ∷ []
+
+at_its_number : (k : Reason) → get_or placed (number_of k - 1) WrongArity ≡ k
+at_its_number k = elim k as (λ k. get_or placed (number_of k - 1) WrongArity ≡ k) [ WrongArity ↦ refl | WrongPartSize ↦ refl | WrongWeights ↦ refl | TooManyCodes ↦ refl | WrongList ↦ refl | ShortBuffer ↦ refl | RepeatedCode ↦ refl | Cyclic ↦ refl | WrongSize ↦ refl | WrongMark ↦ refl | WrongHeader ↦ refl | WrongValue ↦ refl | WrongRank ↦ refl | WrongKey ↦ refl | StrayCode ↦ refl | WrongCode ↦ refl | WrongLevel ↦ refl | EarlierTime ↦ refl | EarlierNow ↦ refl | WrongLimit ↦ refl | WrongLists ↦ refl ]
+
+pub number_own : (i k : Reason) → number_of i ≡ number_of k → i ≡ k
+number_own i k e = sym (at_its_number i) ∙ ap (λ number. get_or placed (number - 1) WrongArity) e ∙ at_its_number k
+
+-- so what is refused for some reason with a number is refused for the one that has it
+pub refused_by_number : {A : Type 0} {o : Result A Refused} (k : Reason) (p : ℕ) → (i : Reason) × (number_of i ≡ number_of k) × (o ≡ refused i p) → o ≡ refused k p
+refused_by_number k p w = w.2 ∙ ap (λ i. refused i p) (number_own w.0 k w.1)
 
 -- ---- no reason has the number 0, so an answer is told by its numbers
 
