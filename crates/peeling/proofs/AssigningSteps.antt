@@ -1,13 +1,12 @@
 -- One turn of the assignment, over the arrays: from the edges after the first k to those after one less. Assumes nothing.
 -- M, N and W stand for the arrays of marks, of edges noted and of values; a prime marks what has become of one.
-use Rattle.std.specs.Prelude.{◌≡◌, ◌≢◌, Bool, List, [], ◌∷◌, ◌++◌, ℕ, ◌+◌, ◌≤◌, ◌<◌, get_or, drop, take}
+use Rattle.std.specs.Prelude.{◌≡◌, ◌≢◌, Bool, List, [], ◌∷◌, ℕ, ◌+◌, ◌≤◌, ◌<◌, get_or, drop}
 use Rattle.std.proofs.Math.Path.{refl, sym, ap}
-use Rattle.std.proofs.Common.{◌∙◌, ⊎_elim, zero-le, add-one, arith, drop-cons, get_or-set_same, get_or-take, take-take, length-take}
-use Rattle.std.proofs.lemmas.List.{length_push, get_or_push}
+use Rattle.std.proofs.Common.{◌∙◌, ⊎_elim, zero-le, add-one, arith, drop-cons, get_or-set_same}
 use Rattle.std.proofs.Math.Bool.{true, false, not}
 use Rattle.std.proofs.Math.Dec.{eqb}
 use Rattle.std.proofs.Math.ListN.{length, length-set}
-use Rattle.std.proofs.Math.Seq.{drop-length, get_or-set_other, take-append_seam}
+use Rattle.std.proofs.Math.Seq.{drop-length, get_or-set_other}
 use Rattle.counting.proofs.TestLaws.{eq?, clash}
 use Rattle.counting.specs.Below.{bit}
 use Rattle.counting.proofs.BelowLaws.{sum_equal}
@@ -26,24 +25,6 @@ use Rattle.counting.specs.Holds.{Holds}
 use Rattle.removal.specs.Arrays.{graph_in, vertex_at, Held, Wide}
 use Rattle.removal.proofs.TallyLaws.{held_vertices}
 use Rattle.peeling.specs.Assigning.{free_of, value_sum, VisitedFrom, Free, Given, AllRemoved, Assigned}
-
--- ---- a list from its end
-
--- number x came, and `rest` is left
-pub record Came (order rest : List ℕ) (x : ℕ) : Type 0 where
-  pub left : rest ≡ take (length rest) order
-  pub last : x ≡ get_or order (length rest) 0
-  pub low : length rest < length order
-
-pub came : {order before rest : List ℕ} {x : ℕ} → before ≡ take (length before) order → before ≡ rest ++ x ∷ [] → Came order rest x
-came {order} {before} {rest} {x} start gives =
-    let k = length rest in
-    let whole : take (k + 1) order ≡ rest ++ x ∷ [] = ap (λ n. take n order) (sym (ap length gives ∙ length_push rest x)) ∙ sym start ∙ gives in
-    record {
-      left = sym (sym (take-take k (k + 1) order (omega arith)) ∙ ap (take k) whole ∙ take-append_seam rest (x ∷ []));
-      last = sym (sym (get_or-take (k + 1) order k 0 (omega arith)) ∙ ap (λ l. get_or l k 0) whole ∙ get_or_push rest x 0 k refl);
-      low = omega (arith, ap length whole, length_push rest x, length-take (k + 1) order);
-    }
 
 -- ---- the turns
 

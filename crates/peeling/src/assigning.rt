@@ -55,7 +55,8 @@ pub fn assign(
     ensures { Assigned (graph_in (length order.now) edges.entry.r (length visited.old) edges.entry.list.now) landed.new values.new }
 {
     values.fill(edges.r as u8);
-    for e in order.iter().rev() {
-        assign_edge(*e as usize, edges, visited, landed, values);
+    // By places: the slip of document 01 that must fail takes the one at the other end, and the items alone have none.
+    for k in (0..order.len()).rev() {
+        assign_edge(order[k] as usize, edges, visited, landed, values);
     }
 }

@@ -31,7 +31,8 @@ pub fn put_keys(out: &mut Pen, codes: Codes, keys: &[u16])
     requires room { RoomFor ((key_head + HD.positions) * length keys.now) out.old }
     ensures { (h : Header) → Went (each (length keys.now) (λ l. key_record HD h (code_of codes.entry.list.run.now codes.entry.list.ends.now (get_or keys.now l 0)))) out.old out.new }
 {
-    for key in keys {
-        put_key(out, codes.list.code(usize::from(*key)));
+    // By lines: the slip that must fail takes the code of that number, and the items alone have none.
+    for l in 0..keys.len() {
+        put_key(out, codes.list.code(usize::from(keys[l])));
     }
 }

@@ -1,14 +1,12 @@
--- `peeling::assigning::assign`. The invariant: what the iterator has left is the start of the list, and the edges after it have their values. Assumes nothing.
-use Rattle.std.proofs.Common.{drop, length, take, ◌≡◌}
+-- `peeling::assigning::assign`. The invariant: the edges of the removal list from number k on have their values. Assumes nothing.
+use Rattle.std.proofs.Common.{drop, length}
 use Rattle.graph.specs.Peeling.{removal_list}
 use Rattle.removal.specs.Arrays.{graph_in}
 use Rattle.peeling.proofs.AssigningSteps.{Back}
 use Rattle.peeling.proofs.assigning.assign.Given as goal
 
-abbrev pub invariant-loop-e : goal.invariant-loop-e
-invariant-loop-e l =
-    let k = length l.e-iterator.iter.rest.now in
-    record {
-      left : l.e-iterator.iter.rest.now ≡ take k l.order;
-      back : Back (length l.order) l.edges.r (length l.initial.visited) l.edges.list.now l.visited l.landed l.values (drop k (removal_list (graph_in (length l.order) l.edges.r (length l.initial.visited) l.edges.list.now)));
-    }
+abbrev pub invariant-loop-k : goal.invariant-loop-k
+invariant-loop-k l =
+    let n = length l.order in
+    let m = length l.initial.visited in
+    Back n l.edges.r m l.edges.list.now l.visited l.landed l.values (drop l.k (removal_list (graph_in n l.edges.r m l.edges.list.now)))

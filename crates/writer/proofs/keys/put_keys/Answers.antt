@@ -8,21 +8,21 @@ use Rattle.directory.specs.File.{key_record}
 use Rattle.lists.proofs.NamingSteps.{code_short}
 use Rattle.writer.proofs.keys.put_keys.Goals as goal
 
-pub loop-key-init : goal.loop-key-init
-loop-key-init c = record { written = λ h. went_each_none _ _; past = omega arith }
+pub loop-l-init : goal.loop-l-init
+loop-l-init c = record { written = λ h. went_each_none _ _; past = omega arith }
 
-pub loop-key-preserved : goal.loop-key-preserved
-loop-key-preserved c =
-    let v = c.loop-key in
+pub loop-l-preserved : goal.loop-l-preserved
+loop-l-preserved c =
+    let v = c.loop-l in
     let list = c.args.codes.list in
     let is = c.code.ensures ∙ ap (code list.run.now list.ends.now) c.from.ensures in
-    record { written = λ h. went_each-next v.key-index _ (v.invariant.written h) (went_named (ap (key_record HD h) is) (c.put_key.ensures.written h)); past = omega arith }
+    record { written = λ h. went_each-next v.l _ (v.invariant.written h) (went_named (ap (key_record HD h) is) (c.put_key.ensures.written h)); past = omega arith }
 
 pub put_key-requires-clause-short : goal.put_key-requires-clause-short
-put_key-requires-clause-short c = let codes = c.args.codes in code_short codes.list.run.now codes.list.ends.now _ _ codes.listed (omega (arith, c.from.ensures, c.requires.is_code c.loop-key.key-index c.loop-key-test.true)) c.code.ensures
+put_key-requires-clause-short c = let codes = c.args.codes in code_short codes.list.run.now codes.list.ends.now _ _ codes.listed (omega (arith, c.from.ensures, c.requires.is_code c.loop-l.l c.loop-l-test.true)) c.code.ensures
 
 pub returns : goal.returns
-returns c h = let all : c.loop-key.key-index ≡ length c.args.keys.now = omega arith in rw (← all) (c.loop-key.invariant.written h)
+returns c h = let all : c.loop-l.l ≡ length c.args.keys.now = omega arith in rw (← all) (c.loop-l.invariant.written h)
 
 pub put_key-requires-clause-room : goal.put_key-requires-clause-room
-put_key-requires-clause-room c = omega (arith, c.loop-key.invariant.written (headed 0 0 0))
+put_key-requires-clause-room c = omega (arith, c.loop-l.invariant.written (headed 0 0 0))
