@@ -24,7 +24,7 @@ fn look_up(rt: &(impl Print + Tell), file: &[u8], code: &[u8]) {
         Ok(None) => rt.println("unknown"),
         Err(refusal) => {
             say(rt, b"CODE");
-            refused(rt, refusal);
+            refused(rt, refusal.reason.number(), refusal.place);
             Ok(())
         }
     };
@@ -57,7 +57,7 @@ fn find_in(rt: &(impl Env + Print + Tell), file: &[u8]) {
         Ok(_) => find_code(rt, file),
         Err(refusal) => {
             say_argument(rt, FILE);
-            refused(rt, refusal);
+            refused(rt, refusal.reason.number(), refusal.place);
         }
     }
 }

@@ -7,11 +7,12 @@ mod done; // done.rt: the file, written, and what is said of it
 
 use arguments::{ARGUMENTS, Asked, CODES, LONGEST_TEXT, MOST_SIZE, R, TEXT_ROOM, V, WEIGHTS};
 use directory::Header;
-use done::{LONGEST_DIRECTORY, write_file};
+use done::{LONGEST_DIRECTORY, LONGEST_RECORDS, write_file};
 use given::{number_argument, text_argument};
 use making::make;
 use std::rt::{Env, Files};
 use telling::{Tell, Told, argument_count, say};
+use texts::{MOST_KEPT, MOST_LINES};
 use words::tell_not_made;
 
 fn make_asked(
@@ -51,6 +52,9 @@ fn main(rt: HostRuntime) {
         say(&rt, b"usage: make_directory CODES WEIGHTS R V FILE\n");
         return;
     }
+    // A longer text fills the room that it is read into, and the longest directory has its own.
+    prove!(LONGEST_TEXT == MOST_LINES * (4 + 2 * MOST_KEPT) && TEXT_ROOM == LONGEST_TEXT + 1);
+    prove!(LONGEST_DIRECTORY == LONGEST_RECORDS);
     let mut codes = [0u8; TEXT_ROOM];
     let mut weights = [0u8; TEXT_ROOM];
     let mut file = [0u8; LONGEST_DIRECTORY];

@@ -51,7 +51,7 @@ fn tell_refused(rt: &(impl Env + Tell), asked: &Asked, refusal: Refused) {
         Reason::WrongList | Reason::RepeatedCode => say_code(rt, asked.codes, refusal.place),
         _ => say_argument(rt, CODES),
     }
-    refused(rt, refusal);
+    refused(rt, refusal.reason.number(), refusal.place);
 }
 
 pub fn tell_not_made(rt: &(impl Env + Tell), asked: &Asked, why: NotMade) -> Told {

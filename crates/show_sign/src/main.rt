@@ -120,6 +120,8 @@ fn main(rt: HostRuntime) {
         say(&rt, b"usage: show_sign FILE REPORTS NOW LIMIT\n");
         return;
     }
+    // A longer text fills the room that it is read into.
+    prove!(TEXT_ROOM == LONGEST_TEXT + 1);
     let mut file = [0u8; LONGEST_FILE];
     let mut reports = [0u8; TEXT_ROOM];
     // What failed was told.

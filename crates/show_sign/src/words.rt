@@ -7,7 +7,7 @@ use telling::{Tell, Told, refused, say, say_argument, say_line, say_text};
 // A file that does not open.
 pub fn tell_file(rt: &(impl Env + Tell), why: Refused) -> Told {
     say_argument(rt, FILE);
-    refused(rt, why);
+    refused(rt, why.reason.number(), why.place);
     Told
 }
 
@@ -16,7 +16,7 @@ pub fn tell_limit(rt: &impl Tell, limit: u32, why: Refused) -> Told {
     say(rt, b"LIMIT is ");
     say_text(rt, limit);
     say(rt, b"; it must be 1 to 86400");
-    refused(rt, why);
+    refused(rt, why.reason.number(), why.place);
     Told
 }
 
@@ -43,7 +43,7 @@ fn tell_refused(rt: &(impl Env + Tell), line: &[u8], k: usize, why: Refused) {
         Reason::EarlierTime => say(rt, b": its time is before the last report of its line"),
         _ => (),
     }
-    refused(rt, why);
+    refused(rt, why.reason.number(), why.place);
 }
 
 // What became of the report in line k, unless it was accepted.

@@ -1,6 +1,26 @@
-// Why something was refused, by its reason.
+// Why something was refused, by its number.
 use crate::{Tell, say, say_text};
-use directory::{Reason, Refused};
+use directory::Reason;
+
+// The reasons that there are words for here.
+const TOLD: [Reason; 16] = [
+    Reason::WrongArity,
+    Reason::WrongPartSize,
+    Reason::WrongWeights,
+    Reason::TooManyCodes,
+    Reason::WrongList,
+    Reason::ShortBuffer,
+    Reason::RepeatedCode,
+    Reason::Cyclic,
+    Reason::WrongSize,
+    Reason::WrongMark,
+    Reason::WrongHeader,
+    Reason::WrongValue,
+    Reason::WrongRank,
+    Reason::WrongKey,
+    Reason::StrayCode,
+    Reason::WrongCode,
+];
 
 // 1 to 8, of building.
 fn say_building(rt: &impl Tell, reason: Reason, place: usize) {
@@ -67,10 +87,11 @@ fn say_reading(rt: &impl Tell, reason: Reason, place: usize) {
     }
 }
 
-// Goes on after the words for what was refused, and ends the line.
-pub fn refused(rt: &impl Tell, refusal: Refused) {
-    say_building(rt, refusal.reason, refusal.place);
-    say_reading(rt, refusal.reason, refusal.place);
-    let number = refusal.reason.number();
+// Goes on after the words for what was refused, and ends the line. By the number and no Reason, so that any may be told: one without words is told alone.
+pub fn refused(rt: &impl Tell, number: u8, place: usize) {
+    if let Some(reason) = TOLD.iter().find(|reason| reason.number() == number) {
+        say_building(rt, *reason, place);
+        say_reading(rt, *reason, place);
+    }
     say_text(rt, format_args!(" (refusal {number})\n"));
 }

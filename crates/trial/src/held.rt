@@ -7,12 +7,12 @@ const LONGEST_FILE: usize = 65_536;
 const LONGEST_CODE: usize = 4_096;
 
 // The most ends and weights that are lent.
-const MOST_ENDS: usize = 2_048;
+pub const MOST_ENDS: usize = 2_048;
 
-const MOST_WEIGHTS: usize = 128;
+pub const MOST_WEIGHTS: usize = 128;
 
 // The most bytes of a list of the sign: two places more than the most lines have.
-const LONGEST_LIST: usize = 4_104;
+pub const LONGEST_LIST: usize = 4_104;
 
 // The file under trial, the code that is asked for, the run, the ends and the weights that are lent to a build, and the sign's lists.
 #[derive(Default, Drop)]

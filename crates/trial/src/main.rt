@@ -14,8 +14,11 @@ mod calls; // calls.rt: doing what vectors ask for
 ghost use Rattle.std.specs.Prelude.{◌≤◌, length};
 
 use calls::step;
-use held::Held;
+use held::{Held, LONGEST_LIST, MOST_ENDS, MOST_WEIGHTS};
 use reading::Vector;
+use records::offsets::POSITIONS;
+use records::sizes::MOST_CODES;
+use sign::PLACE;
 use std::io::Read;
 
 // The bytes of a piece.
@@ -42,6 +45,9 @@ fn read_full(input: &mut impl Read, piece: &mut [u8]) -> usize
 
 // Goes through standard input, piece by piece.
 fn main(rt: HostRuntime) {
+    // Twice the most ends, more weights than any arity has, and lists of two places more than the most lines.
+    prove!(MOST_ENDS == 2 * MOST_CODES && MOST_WEIGHTS == 4 * POSITIONS);
+    prove!(LONGEST_LIST == PLACE * (MOST_CODES + 2));
     let mut piece = [0; PIECE];
     let mut input = rt.reader();
     let mut vector = Vector::default();
